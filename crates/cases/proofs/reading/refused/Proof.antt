@@ -1,0 +1,13 @@
+-- `cases::reading::refused` meets its contract: the counts are all 0. Assumes nothing.
+use borrow.Author.Needs.{needs}
+use Rattle.cases.proofs.reading.refused.Statement.{statement}
+use Rattle.cases.proofs.reading.refused.Tie as tie
+
+no-counts-requires : tie.Need-no-counts-requires
+no-counts-requires c κs = search needs
+
+returns : tie.Need-returns
+returns c = rw (c .no-counts .ensures)
+
+pub refused-spec : {M : Type 1} → statement M
+refused-spec = tie.close (tie.spec no-counts-requires returns)

@@ -1,0 +1,6 @@
+-- A case, its format, and what reading answers: document 01, "A case, command by command" and "Refusals", Reading.
+pub mod Case
+pub mod Format
+pub mod Reading
+pub mod Sound
+pub mod Tables

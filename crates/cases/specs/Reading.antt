@@ -1,0 +1,251 @@
+-- Reading: what is at fault with a command, the walk over the input, and what reading answers.
+-- Document 01, "A case, command by command" (limits, order) and "Refusals", Reading. Assumes nothing.
+use Prim.Native.Nat.{ℕ, zero, suc, _+_}
+use mathlib.Core.Bool.{Bool, true, false, cond, _&&_}
+use mathlib.Core.List.{List, [], _∷_, _++_, map}
+use lib.ListN.{length, getD, drop}
+use lib.Dec.{eqb, leb, ltb}
+use Rattle.fixpoint.specs.Lists.{all}
+use Rattle.cases.specs.declared.command.Command.{Command}
+use Rattle.cases.specs.declared.command.Command.the-variants.{Nodes, End}
+use Rattle.cases.specs.declared.command.Command.the-variants.{Edge as EdgeCommand, Path as PathCommand, Shape as ShapeCommand, Target as TargetCommand}
+use Rattle.cases.specs.declared.command.PathRule.{PathRule}
+use Rattle.cases.specs.declared.command.ShapeRule.{ShapeRule}
+use Rattle.cases.specs.declared.command.ShapeRule.the-variants.{Top, Node, And, Or, Not, Same, All, AtLeast}
+use Rattle.cases.specs.declared.command.Row.{Row}
+use Rattle.cases.specs.declared.faults.Counts.{Counts}
+use Rattle.cases.specs.declared.faults.Step.{Step}
+use Rattle.cases.specs.declared.faults.Step.the-variants.{Is, Refused}
+use Rattle.cases.specs.declared.reading.Reading.{Reading}
+use Rattle.cases.specs.declared.reading.Refusal.{Refusal}
+use Rattle.cases.specs.Case.{Case, emptyCase, countsOf, pathsOfPath, pathsOfShape, references}
+use Rattle.cases.specs.Format.{groupOf, widthOf, rowOf, complete, commandAt}
+
+-- ---- The limits
+
+abbrev pub nodeLimit : ℕ
+nodeLimit = 128
+
+abbrev pub edgeLimit : ℕ
+edgeLimit = 1024
+
+abbrev pub pathLimit : ℕ
+pathLimit = 16
+
+abbrev pub shapeLimit : ℕ
+shapeLimit = 32
+
+abbrev pub targetLimit : ℕ
+targetLimit = 256
+
+-- ---- Refusals 1 to 7: the faults of one command, judged by what stands before it
+
+-- one 01 first, then edges, paths, shapes, targets, one FF last: last is the group of the command before, 0 at the start
+abbrev pub inOrder : ℕ → ℕ → Bool
+inOrder last group = cond (eqb last 0) (eqb group 1) (cond (eqb group 1) false (leb last group))
+
+-- 4: the node count, or one more command of the group, is within the limit
+abbrev pub withinLimit : Counts → Command → Bool
+withinLimit k (Nodes n) = leb n nodeLimit
+withinLimit k (EdgeCommand e) = ltb (k .edges) edgeLimit
+withinLimit k (PathCommand r) = ltb (k .paths) pathLimit
+withinLimit k (ShapeCommand r) = ltb (k .shapes) shapeLimit
+withinLimit k (TargetCommand t) = ltb (k .targets) targetLimit
+withinLimit k End = true
+
+-- 5: node operands are below the node count
+unfoldable pub shapeNodesKnown : ℕ → ShapeRule → Bool
+shapeNodesKnown nodes Top = true
+shapeNodesKnown nodes (Node a) = ltb (a .0) nodes
+shapeNodesKnown nodes (And s t) = true
+shapeNodesKnown nodes (Or s t) = true
+shapeNodesKnown nodes (Not s) = true
+shapeNodesKnown nodes (Same p q) = true
+shapeNodesKnown nodes (All p s) = true
+shapeNodesKnown nodes (AtLeast n p s) = true
+
+abbrev pub nodesKnown : Counts → Command → Bool
+nodesKnown k (Nodes n) = true
+nodesKnown k (EdgeCommand e) = ltb (e .subject .0) (k .nodes) && ltb (e .object .0) (k .nodes)
+nodesKnown k (PathCommand r) = true
+nodesKnown k (ShapeCommand r) = shapeNodesKnown (k .nodes) r
+nodesKnown k (TargetCommand t) = ltb (t .node .0) (k .nodes)
+nodesKnown k End = true
+
+-- 6: path operands name paths that stand earlier in the case
+unfoldable pub pathPathsEarlier : ℕ → PathRule → Bool
+pathPathsEarlier paths r = all (pathsOfPath r) (λ p. ltb p paths)
+
+unfoldable pub shapePathsEarlier : ℕ → ShapeRule → Bool
+shapePathsEarlier paths r = all (pathsOfShape r) (λ p. ltb p paths)
+
+abbrev pub pathsEarlier : Counts → Command → Bool
+pathsEarlier k (Nodes n) = true
+pathsEarlier k (EdgeCommand e) = true
+pathsEarlier k (PathCommand r) = pathPathsEarlier (k .paths) r
+pathsEarlier k (ShapeCommand r) = shapePathsEarlier (k .paths) r
+pathsEarlier k (TargetCommand t) = true
+pathsEarlier k End = true
+
+-- 7: a least number is at least 1
+abbrev pub shapeLeastPositive : ShapeRule → Bool
+shapeLeastPositive Top = true
+shapeLeastPositive (Node a) = true
+shapeLeastPositive (And s t) = true
+shapeLeastPositive (Or s t) = true
+shapeLeastPositive (Not s) = true
+shapeLeastPositive (Same p q) = true
+shapeLeastPositive (All p s) = true
+shapeLeastPositive (AtLeast n p s) = leb 1 n
+
+abbrev pub leastPositive : Command → Bool
+leastPositive (Nodes n) = true
+leastPositive (EdgeCommand e) = true
+leastPositive (PathCommand r) = true
+leastPositive (ShapeCommand r) = shapeLeastPositive r
+leastPositive (TargetCommand t) = true
+leastPositive End = true
+
+-- what follows, unless a test fails
+abbrev pub unless : Bool → ℕ → Step → Step
+unless ok number rest = cond ok rest (Refused number)
+
+unfoldable pub judged : Counts → Command → Row → Step
+judged k command row =
+    unless (withinLimit k command) 4
+    (unless (nodesKnown k command) 5
+    (unless (pathsEarlier k command) 6
+    (unless (leastPositive command) 7
+    (Is command row))))
+
+-- what is read where a part of the input starts: a command, or the first refusal of 1 to 7
+unfoldable pub stepAt : ℕ → Counts → List ℕ → Step
+stepAt last k s =
+    unless (ltb 0 (groupOf (getD s 0 0))) 1
+    (unless (inOrder last (groupOf (getD s 0 0))) 2
+    (unless (complete s) 3
+    (judged k (commandAt s) (rowOf s))))
+
+-- the number of each answer
+abbrev pub numberOf : Step → ℕ
+numberOf (Is command row) = 0
+numberOf (Refused n) = n
+
+-- ---- The walk over the input
+
+-- a refusal is document 01's number and the place; the number 0 stands for none
+unfoldable pub noRefusal : Refusal
+noRefusal = record { number = 0; place = 0 }
+
+-- a shape operand and the offset of its command
+pub record Named : Type 0 where
+  pub shape : ℕ
+  pub place : ℕ
+
+-- what has been read: the last command's group, the case so far, and the shape operands so far
+pub record Progress : Type 0 where
+  pub last : ℕ
+  pub case : Case
+  pub named : List Named
+
+unfoldable pub start : Progress
+start = record { last = 0; case = emptyCase; named = [] }
+
+-- the case with one command more
+unfoldable pub add : Case → Command → Case
+add c (Nodes n) = record { nodes = n; edges = c .edges; paths = c .paths; shapes = c .shapes; targets = c .targets }
+add c (EdgeCommand e) = record { nodes = c .nodes; edges = c .edges ++ (e ∷ []); paths = c .paths; shapes = c .shapes; targets = c .targets }
+add c (PathCommand r) = record { nodes = c .nodes; edges = c .edges; paths = c .paths ++ (r ∷ []); shapes = c .shapes; targets = c .targets }
+add c (ShapeCommand r) = record { nodes = c .nodes; edges = c .edges; paths = c .paths; shapes = c .shapes ++ (r ∷ []); targets = c .targets }
+add c (TargetCommand t) = record { nodes = c .nodes; edges = c .edges; paths = c .paths; shapes = c .shapes; targets = c .targets ++ (t ∷ []) }
+add c End = c
+
+-- the shape operands of a command, of a shape or a target
+unfoldable pub shapesNamed : Command → List ℕ
+shapesNamed (Nodes n) = []
+shapesNamed (EdgeCommand e) = []
+shapesNamed (PathCommand r) = []
+shapesNamed (ShapeCommand r) = references r
+shapesNamed (TargetCommand t) = t .shape .0 ∷ []
+shapesNamed End = []
+
+unfoldable pub namedAt : ℕ → List ℕ → List Named
+namedAt place shapes = map (λ s. record { shape = s; place = place }) shapes
+
+-- what has been read, with the command at an offset, of a group, read too
+unfoldable pub pass : Progress → ℕ → ℕ → Command → Progress
+pass p at group command =
+    record {
+      last = group;
+      case = add (p .case) command;
+      named = p .named ++ namedAt at (shapesNamed command);
+    }
+
+-- 9: a shape operand not in the case; the place is the first such command's
+unfoldable pub unknownShape : ℕ → List Named → Refusal
+unknownShape shapes [] = noRefusal
+unknownShape shapes (r ∷ l) = cond (ltb (r .shape) shapes) (unknownShape shapes l) (record { number = 9; place = r .place })
+
+-- over the case, once its end command is read: 8 bytes after it, which start at end; then 9
+unfoldable pub afterEnd : List ℕ → ℕ → Progress → Refusal
+afterEnd s end p =
+    cond (ltb end (length s)) (record { number = 8; place = end })
+    (unknownShape (length (p .case .shapes)) (p .named))
+
+-- what reading comes to: a refusal and the empty case, or no refusal and the case
+pub record Outcome : Type 0 where
+  pub refusal : Refusal
+  pub case : Case
+
+unfoldable pub refused : ℕ → ℕ → Outcome
+refused number place = record { refusal = record { number = number; place = place }; case = emptyCase }
+
+unfoldable pub finish : List ℕ → ℕ → Progress → Outcome
+finish s end p =
+    cond (eqb (afterEnd s end p .number) 0)
+    (record { refusal = noRefusal; case = p .case })
+    (record { refusal = afterEnd s end p; case = emptyCase })
+
+abbrev pub isEnd : Command → Bool
+isEnd (Nodes n) = false
+isEnd (EdgeCommand e) = false
+isEnd (PathCommand r) = false
+isEnd (ShapeCommand r) = false
+isEnd (TargetCommand t) = false
+isEnd End = true
+
+-- from an offset on: 3 where the input ends, else the first command at fault decides, else on to the next command or the end.
+-- The fuel is above the bytes left, of which each command takes one at least
+unfoldable pub walk : ℕ → List ℕ → ℕ → Progress → Outcome
+walk zero s at p = refused 3 at
+walk (suc fuel) s at p =
+    elim (ltb at (length s)) [
+      | false ↦ refused 3 at
+      | true ↦
+          elim (stepAt (p .last) (countsOf (p .case)) (drop at s)) [
+            | Refused number ↦ refused number at
+            | Is command row ↦
+                elim (isEnd command) [
+                  | true ↦ finish s (at + 1) p
+                  | false ↦ walk fuel s (at + widthOf (getD s at 0)) (pass p at (groupOf (getD s at 0)) command)
+                ]
+          ]
+    ]
+
+-- a byte string's case, or its refusal
+unfoldable pub outcome : List ℕ → Outcome
+outcome s = walk (suc (length s)) s 0 start
+
+-- ---- What reading answers: number, place, and the counts, all 0 on a refusal
+
+unfoldable pub reading : List ℕ → Reading
+reading s =
+    record {
+      number = outcome s .refusal .number;
+      place = outcome s .refusal .place;
+      nodes = countsOf (outcome s .case) .nodes;
+      edges = countsOf (outcome s .case) .edges;
+      paths = countsOf (outcome s .case) .paths;
+      shapes = countsOf (outcome s .case) .shapes;
+      targets = countsOf (outcome s .case) .targets;
+    }

@@ -1,0 +1,82 @@
+// The format: which bytes are commands, how wide their operands are, and reading a command's operands.
+use crate::command::Row;
+ghost use mathlib.Core.Path.{_≡_};
+ghost use Prim.Native.Nat.{_+_, _≤_, _<_};
+ghost use lib.ListN.{length, getD};
+ghost use Rattle.cases.specs.Format.{formatOf, widthOf, numberAt, operandsOf};
+
+// A command byte's group, 0 for an unknown byte, and the widths of its operands in bytes.
+pub struct Format(pub usize, pub u8, pub u8, pub u8);
+
+pub fn format_of(code: u8) -> Format
+    ensures { λ r. ⌜ r ≡ formatOf code ⌝ }
+{
+    match code {
+        0x01 => Format(1, 2, 0, 0),
+        0x02 => Format(2, 1, 2, 2),
+        0x10 => Format(3, 1, 0, 0),
+        0x11 => Format(3, 1, 0, 0),
+        0x12 => Format(3, 1, 1, 0),
+        0x13 => Format(3, 1, 1, 0),
+        0x14 => Format(3, 1, 0, 0),
+        0x20 => Format(4, 0, 0, 0),
+        0x21 => Format(4, 2, 0, 0),
+        0x22 => Format(4, 1, 1, 0),
+        0x23 => Format(4, 1, 1, 0),
+        0x24 => Format(4, 1, 0, 0),
+        0x25 => Format(4, 1, 1, 0),
+        0x26 => Format(4, 1, 1, 0),
+        0x27 => Format(4, 1, 1, 1),
+        0x30 => Format(5, 1, 2, 0),
+        0xff => Format(6, 0, 0, 0),
+        _ => Format(0, 0, 0, 0),
+    }
+}
+
+// The bytes that a command takes: its own and its operands'.
+pub fn width_of(code: u8) -> usize
+    ensures { λ r. ⌜ r ≡ widthOf code ⌝ }
+{
+    let f = format_of(code);
+    1 + f.1 as usize + f.2 as usize + f.3 as usize
+}
+
+// The number of `width` bytes at `at`, low byte first.
+fn number_at(part: &[u8], at: usize, width: u8) -> u16
+    requires { ⌜ at + width ≤ length (now part) ⌝ }
+    ensures { λ r. ⌜ r ≡ numberAt (now (part .entry)) at width ⌝ }
+{
+    if width == 0 {
+        return 0;
+    }
+    let low = part[at] as u16;
+    if width == 1 {
+        return low;
+    }
+    low + 256 * (part[at + 1] as u16)
+}
+
+// What the operand reader finds: the whole command as a row, or an input that ends too early.
+pub enum Operands {
+    Complete(Row),
+    Cut,
+}
+
+// Reads the operands of the command that `part` starts with.
+pub fn read_operands(part: &[u8]) -> Operands
+    requires { ⌜ 0 < length (now part) ⌝ }
+    ensures { λ r. ⌜ r ≡ operandsOf (now (part .entry)) ⌝ }
+{
+    let code = part[0];
+    let f = format_of(code);
+    let second = 1 + f.1 as usize;
+    let third = second + f.2 as usize;
+    let end = third + f.3 as usize;
+    if part.len() < end {
+        return Operands::Cut;
+    }
+    let x = number_at(part, 1, f.1);
+    let y = number_at(part, second, f.2);
+    let z = number_at(part, third, f.3);
+    Operands::Complete(Row(code as u16, x, y, z))
+}

@@ -1,0 +1,180 @@
+// Reads the samples of document 01, each limit at it and one above, and each refusal 1 to 9, and prints what reading answers:
+// the name, the refusal's number and place, and the counts of nodes, edges, paths, shapes and targets.
+mod build;
+
+use build::put;
+use build::repeat;
+use cases::reading::read;
+use libc::STDOUT_FILENO;
+
+fn number(n: usize) {
+    io::write_all(STDOUT_FILENO, b" ");
+    io::print_decimal(STDOUT_FILENO, n as u64);
+}
+
+fn show(name: &[u8], case: &[u8]) {
+    let r = read(case);
+    io::write_all(STDOUT_FILENO, name);
+    io::write_all(STDOUT_FILENO, b":");
+    number(r.number);
+    number(r.place);
+    number(r.nodes);
+    number(r.edges);
+    number(r.paths);
+    number(r.shapes);
+    number(r.targets);
+    io::write_all(STDOUT_FILENO, b"\n");
+}
+
+// The first n bytes of a buffer as a case.
+fn show_first(name: &[u8], buffer: &[u8], n: usize) {
+    if n <= buffer.len() {
+        show(name, &buffer[..n]);
+    }
+}
+
+// What comes before, then a command as often as said, then what comes after.
+fn show_many(name: &[u8], before: &[u8], command: &[u8], times: usize, after: &[u8]) {
+    let mut case = [0u8; 8192];
+    let mut n = put(&mut case, 0, before);
+    n = repeat(&mut case, n, command, times);
+    n = put(&mut case, n, after);
+    show_first(name, &case, n);
+}
+
+// Samples of the scope.
+fn samples() {
+    show(b"empty input", b"");
+    show(b"no nodes", b"\x01\x00\x00\xff");
+    show(b"128 nodes", b"\x01\x80\x00\xff");
+    show(b"129 nodes", b"\x01\x81\x00\xff");
+    show(b"byte after end", b"\x01\x00\x00\xff\x00");
+    show(b"second end", b"\x01\x00\x00\xff\xff");
+    show(
+        b"least number 255",
+        b"\x01\x01\x00\x10\x00\x20\x27\xff\x00\x00\xff",
+    );
+    show(
+        b"least number 0",
+        b"\x01\x01\x00\x10\x00\x20\x27\x00\x00\x00\xff",
+    );
+    show(
+        b"ring",
+        b"\x01\x04\x00\x02\x00\x01\x00\x00\x00\x02\x00\x02\x00\x03\x00\x02\x00\x03\x00\x02\x00\x02\x01\x00\x00\x00\x00\x10\x00\x10\x01\x20\x27\x01\x01\x00\x27\x01\x00\x03\x23\x01\x02\x24\x03\x30\x03\x01\x00\x30\x03\x02\x00\xff",
+    );
+}
+
+// Refusals 1 to 3.
+fn early_refusals() {
+    show(b"1 first byte", b"\x00");
+    show(b"1 after paths", b"\x01\x00\x00\x15\xff");
+    show(b"1 before 2", b"\x28");
+    show(b"2 end alone", b"\xff");
+    show(b"2 no nodes command", b"\x20\xff");
+    show(b"2 second nodes command", b"\x01\x01\x00\x01\x01\x00\xff");
+    show(b"2 before 3", b"\x01\x01\x00\x01");
+    show(
+        b"2 edge after path",
+        b"\x01\x01\x00\x10\x00\x02\x00\x00\x00\x00\x00\xff",
+    );
+    show(b"3 no end", b"\x01\x00\x00");
+    show(b"3 nodes cut", b"\x01\x81");
+    show(b"3 edge cut", b"\x01\x01\x00\x02\x00\x00\x00\x00");
+    show(b"3 before 5", b"\x01\x01\x00\x02\x00\x09\x00\x00");
+}
+
+// Refusals 5 to 7.
+fn operand_refusals() {
+    show(b"5 subject", b"\x01\x02\x00\x02\x00\x02\x00\x00\x00\xff");
+    show(b"5 object", b"\x01\x02\x00\x02\x00\x00\x00\x00\x01\xff");
+    show(b"5 node shape", b"\x01\x02\x00\x21\x02\x00\xff");
+    show(b"5 target", b"\x01\x02\x00\x20\x30\x00\x02\x00\xff");
+    show(
+        b"5 largest node",
+        b"\x01\x02\x00\x20\x21\x01\x00\x30\x00\x01\x00\xff",
+    );
+    show(b"6 path itself", b"\x01\x01\x00\x14\x00\xff");
+    show(b"6 second path", b"\x01\x01\x00\x10\x00\x12\x00\x01\xff");
+    show(b"6 shape", b"\x01\x01\x00\x10\x00\x26\x01\x00\xff");
+    show(b"6 before 7", b"\x01\x01\x00\x20\x27\x00\x00\x00\xff");
+    show(b"7", b"\x01\x01\x00\x10\x00\x27\x00\x00\x00\xff");
+}
+
+// Refusals 8 and 9.
+fn late_refusals() {
+    show(b"8 before 9", b"\x01\x01\x00\x24\x01\xff\x00");
+    show(b"9 shape", b"\x01\x01\x00\x20\x22\x00\x02\x24\x03\xff");
+    show(
+        b"9 target",
+        b"\x01\x01\x00\x20\x30\x00\x00\x00\x30\x01\x00\x00\xff",
+    );
+    show(b"9 later shape is there", b"\x01\x01\x00\x24\x01\x20\xff");
+    show(
+        b"2 before 9",
+        b"\x01\x01\x00\x24\x01\x02\x00\x00\x00\x00\x00\xff",
+    );
+}
+
+// Each limit at it, one above, and beside other refusals.
+fn limits() {
+    let node = b"\x01\x01\x00";
+    let edge = b"\x02\x00\x00\x00\x00\x00";
+    show_many(b"1024 edges", node, edge, 1024, b"\xff");
+    show_many(b"1025 edges", node, edge, 1025, b"\xff");
+    show_many(b"1025th edge cut", node, edge, 1024, b"\x02\x00");
+    show_many(
+        b"1025th edge, node unknown",
+        node,
+        edge,
+        1024,
+        b"\x02\x00\x05\x00\x00\x00\xff",
+    );
+    show_many(b"16 paths", node, b"\x10\x00", 16, b"\xff");
+    show_many(b"17 paths", node, b"\x10\x00", 17, b"\xff");
+    show_many(
+        b"17th path, path unknown",
+        node,
+        b"\x10\x00",
+        16,
+        b"\x14\x20\xff",
+    );
+    show_many(b"32 shapes", node, b"\x20", 32, b"\xff");
+    show_many(b"33 shapes", node, b"\x20", 33, b"\xff");
+    show_many(
+        b"256 targets",
+        b"\x01\x01\x00\x20",
+        b"\x30\x00\x00\x00",
+        256,
+        b"\xff",
+    );
+    show_many(
+        b"257 targets",
+        b"\x01\x01\x00\x20",
+        b"\x30\x00\x00\x00",
+        257,
+        b"\xff",
+    );
+}
+
+// The longest case that reads: 7,347 bytes, since the first path names no other.
+fn longest() {
+    let mut case = [0u8; 8192];
+    let mut n = put(&mut case, 0, b"\x01\x80\x00");
+    n = repeat(&mut case, n, b"\x02\x07\x7f\x00\x00\x00", 1024);
+    n = put(&mut case, n, b"\x10\x07");
+    n = repeat(&mut case, n, b"\x13\x00\x00", 15);
+    n = repeat(&mut case, n, b"\x27\x01\x0f\x1f", 32);
+    n = repeat(&mut case, n, b"\x30\x1f\x7f\x00", 256);
+    n = put(&mut case, n, b"\xff");
+    number(n);
+    show_first(b" bytes", &case, n);
+}
+
+fn main() {
+    samples();
+    early_refusals();
+    operand_refusals();
+    late_refusals();
+    limits();
+    longest();
+}

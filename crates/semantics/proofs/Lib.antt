@@ -1,0 +1,9 @@
+-- The laws of a case's meaning and the theorems about levels, stability, solving and denial.
+pub mod Pairs
+pub mod Kernel
+pub mod Thresholds
+pub mod Levels
+pub mod Solved
+pub mod Paths
+pub mod Denial
+pub mod Undenied

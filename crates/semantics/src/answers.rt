@@ -1,0 +1,27 @@
+// What solving, checking and ranking answer: number and place of the refusal, 0 for none, then the counts, 0 on a refusal.
+#[repr(C)]
+pub struct Solution {
+    pub number: usize,
+    pub place: usize,
+    pub rounds: usize,
+    pub valid: usize,
+    pub undetermined: usize,
+    pub sure: usize,
+    pub open: usize,
+    pub impossible: usize,
+}
+
+#[repr(C)]
+pub struct Checked {
+    pub number: usize,
+    pub place: usize,
+    pub undetermined: usize,
+    pub valid: usize,
+}
+
+#[repr(C)]
+pub struct Ranked {
+    pub number: usize,
+    pub place: usize,
+    pub strata: usize,
+}
