@@ -1,29 +1,34 @@
-// The desk program: reads a case from standard input and prints what it holds, or its refusal.
+// The desk program: reads a case from standard input, solves it, and prints the rounds, each shape's values by node, and the verdicts;
+// or `too long`, or the refusal.
 use cases::reading::read;
+use judge::solving::solve;
 use libc::STDIN_FILENO;
 use libc::STDOUT_FILENO;
+use listing::print_listing;
+use listing::print_refusal;
 
 // The longest case that the desk takes.
 const MOST: usize = 8192;
 
-fn number(label: &[u8], n: usize) {
-    io::write_all(STDOUT_FILENO, label);
-    io::print_decimal(STDOUT_FILENO, n as u64);
-}
-
-fn print_reading(case: &[u8]) {
-    let r = read(case);
-    if r.number != 0 {
-        number(b"refused ", r.number);
-        number(b" at ", r.place);
+// Solves the case into tables that are long enough for every case.
+fn print_solution(case: &[u8]) {
+    let mut values = [0u8; 4096];
+    let mut levels = [0u8; 8192];
+    let mut verdicts = [0u8; 256];
+    let read = read(case);
+    let solved = solve(case, &mut values, &mut levels, &mut verdicts);
+    if solved.number != 0 {
+        print_refusal(solved.number, solved.place);
     } else {
-        number(b"nodes ", r.nodes);
-        number(b" edges ", r.edges);
-        number(b" paths ", r.paths);
-        number(b" shapes ", r.shapes);
-        number(b" targets ", r.targets);
+        print_listing(
+            read.nodes,
+            read.shapes,
+            read.targets,
+            solved.rounds,
+            &values,
+            &verdicts,
+        );
     }
-    io::write_all(STDOUT_FILENO, b"\n");
 }
 
 fn main() {
@@ -33,5 +38,5 @@ fn main() {
         io::write_all(STDOUT_FILENO, b"too long\n");
         return;
     }
-    print_reading(&input[..n]);
+    print_solution(&input[..n]);
 }

@@ -62,18 +62,19 @@ caseOf s = outcome s .case
 
 -- ---- Solving: 1 to 9, then 10, 11 and 12
 
+unfoldable pub solveFault : Case → List ℕ → List ℕ → List ℕ → Refusal
+solveFault c valueTable levelTable verdictTable =
+    orElse (tooShort 10 (pairCount c) valueTable)
+    (orElse (tooShort 11 (2 * pairCount c) levelTable)
+    (tooShort 12 (length (c .targets)) verdictTable))
+
 unfoldable pub solveRefusal : List ℕ → List ℕ → List ℕ → List ℕ → Refusal
 solveRefusal s valueTable levelTable verdictTable =
-    let c = caseOf s in
-    orElse (outcome s .refusal)
-    (orElse (tooShort 10 (pairCount c) valueTable)
-    (orElse (tooShort 11 (2 * pairCount c) levelTable)
-    (tooShort 12 (length (c .targets)) verdictTable)))
+    orElse (outcome s .refusal) (solveFault (caseOf s) valueTable levelTable verdictTable)
 
-unfoldable pub solveAnswer : List ℕ → List ℕ → List ℕ → List ℕ → Solution
-solveAnswer s valueTable levelTable verdictTable =
-    let r = solveRefusal s valueTable levelTable verdictTable in
-    let c = caseOf s in
+-- the answer that goes with a refusal, or with none
+unfoldable pub solution : Refusal → Case → Solution
+solution r c =
     record {
       number = r .number;
       place = r .place;
@@ -84,6 +85,9 @@ solveAnswer s valueTable levelTable verdictTable =
       «open» = counted r (tally 1 (verdicts c));
       impossible = counted r (tally 0 (verdicts c));
     }
+
+unfoldable pub solveAnswer : List ℕ → List ℕ → List ℕ → List ℕ → Solution
+solveAnswer s valueTable levelTable verdictTable = solution (solveRefusal s valueTable levelTable verdictTable) (caseOf s)
 
 -- the tables after solving
 unfoldable pub solveValues : List ℕ → List ℕ → List ℕ → List ℕ → List ℕ
@@ -110,19 +114,18 @@ pairFault c v l =
     firstOf (upTo (pairCount c))
     (λ k. orElse (refuseUnless (supportedAt c v k) 14 k) (refuseUnless (justifiedAt c v l k) 15 k))
 
-unfoldable pub checkRefusal : List ℕ → List ℕ → List ℕ → Refusal
-checkRefusal s valueTable levelTable =
-    let c = caseOf s in
-    orElse (outcome s .refusal)
-    (orElse (tooShort 10 (pairCount c) valueTable)
+unfoldable pub checkFault : Case → List ℕ → List ℕ → Refusal
+checkFault c valueTable levelTable =
+    orElse (tooShort 10 (pairCount c) valueTable)
     (orElse (tooShort 11 (2 * pairCount c) levelTable)
     (orElse (valueFault c valueTable)
-    (pairFault c valueTable (levelsIn (pairCount c) levelTable)))))
+    (pairFault c valueTable (levelsIn (pairCount c) levelTable))))
 
-unfoldable pub checkAnswer : List ℕ → List ℕ → List ℕ → Checked
-checkAnswer s valueTable levelTable =
-    let r = checkRefusal s valueTable levelTable in
-    let c = caseOf s in
+unfoldable pub checkRefusal : List ℕ → List ℕ → List ℕ → Refusal
+checkRefusal s valueTable levelTable = orElse (outcome s .refusal) (checkFault (caseOf s) valueTable levelTable)
+
+unfoldable pub checked : Refusal → Case → List ℕ → Checked
+checked r c valueTable =
     record {
       number = r .number;
       place = r .place;
@@ -130,23 +133,30 @@ checkAnswer s valueTable levelTable =
       valid = counted r (tally 2 (targetValues c valueTable));
     }
 
+unfoldable pub checkAnswer : List ℕ → List ℕ → List ℕ → Checked
+checkAnswer s valueTable levelTable = checked (checkRefusal s valueTable levelTable) (caseOf s) valueTable
+
 -- ---- Ranking: 1 to 9, then 16 and 17
 
+-- 17: the lowest shape that depends on its own denial
+unfoldable pub denialFault : Case → Refusal
+denialFault c = firstOf (upTo (length (c .shapes))) (λ k. refuseUnless (not (ownDenial c k)) 17 k)
+
+unfoldable pub rankFault : Case → List ℕ → Refusal
+rankFault c strataTable = orElse (tooShort 16 (length (c .shapes)) strataTable) (denialFault c)
+
 unfoldable pub rankRefusal : List ℕ → List ℕ → Refusal
-rankRefusal s strataTable =
-    let c = caseOf s in
-    orElse (outcome s .refusal)
-    (orElse (tooShort 16 (length (c .shapes)) strataTable)
-    (firstOf (upTo (length (c .shapes))) (λ k. refuseUnless (not (ownDenial c k)) 17 k)))
+rankRefusal s strataTable = orElse (outcome s .refusal) (rankFault (caseOf s) strataTable)
 
 -- the number of strata: one more than the largest byte, 0 for no shapes
 unfoldable pub strataCount : Case → ℕ
 strataCount c = largest (map suc (strata c))
 
+unfoldable pub ranked : Refusal → Case → Ranked
+ranked r c = record { number = r .number; place = r .place; strata = counted r (strataCount c) }
+
 unfoldable pub rankAnswer : List ℕ → List ℕ → Ranked
-rankAnswer s strataTable =
-    let r = rankRefusal s strataTable in
-    record { number = r .number; place = r .place; strata = counted r (strataCount (caseOf s)) }
+rankAnswer s strataTable = ranked (rankRefusal s strataTable) (caseOf s)
 
 -- the table after ranking
 unfoldable pub rankStrata : List ℕ → List ℕ → List ℕ

@@ -22,7 +22,7 @@ use Rattle.semantics.specs.Values.{pairCount, pairOf, isValue, valued, supporte
 use Rattle.semantics.specs.Levels.{justifiedAt, accepted}
 use Rattle.semantics.specs.Stability.{StableAssignment, nextSet, validSet, possibleSet}
 use Rattle.semantics.specs.Solving.{solvedT, solvedP, solvedValues, solvedLevels, targetValues, verdicts, rounds, levelsOf}
-use Rattle.semantics.specs.Operations.{caseOf, solveRefusal, solveAnswer, solveValues, solveLevels, solveVerdicts, checkRefusal, valueFault, pairFault, checkAnswer, levelsIn, levelBytes}
+use Rattle.semantics.specs.Operations.{caseOf, solveRefusal, solveAnswer, solveValues, solveLevels, solveVerdicts, checkRefusal, valueFault, pairFault, checkAnswer, levelsIn, levelBytes, solution, solveFault, checked, checkFault}
 use Rattle.semantics.proofs.Pairs.{pair-below}
 use Rattle.semantics.proofs.Kernel.{rule-system}
 use Rattle.semantics.proofs.Levels.{accepted-stable, stable-accepted, levels-small, levels-length}
@@ -43,7 +43,7 @@ pub record SolvedCase (s valueTable levelTable verdictTable : List ℕ) : Type 0
 
 -- solving refuses nothing exactly where the input reads and the tables are long enough
 solve-none : (s vt lt dt : List ℕ) → (solveAnswer s vt lt dt .number ≡ 0) ↔ (Reads s × ((pairCount (caseOf s) ≤ length vt) × ((2 * pairCount (caseOf s) ≤ length lt) × (length (caseOf s .targets) ≤ length dt))))
-unfolding solveAnswer solveRefusal
+unfolding solveAnswer solution solveRefusal solveFault
 solve-none s vt lt dt =
     let N = pairCount (caseOf s) in
     orElse-none _ _ Iff·rfl
@@ -60,7 +60,7 @@ pub record Untouched (s vt lt dt : List ℕ) : Type 0 where
   pub verdicts : solveVerdicts s vt lt dt ≡ dt
 
 pub refused-solve-writes-nothing : (s vt lt dt : List ℕ) → (solveAnswer s vt lt dt .number ≡ 0 → ⊥) → Untouched s vt lt dt
-unfolding solveAnswer solveValues solveLevels solveVerdicts
+unfolding solveAnswer solution solveValues solveLevels solveVerdicts
 refused-solve-writes-nothing s vt lt dt h =
     let r = solveRefusal s vt lt dt in
     record { values = written-refused r _ vt h; levels = written-refused r _ lt h; verdicts = written-refused r _ dt h }
@@ -79,7 +79,7 @@ unfolding verdicts targetValues
 length-verdicts c = length-map (c .targets) _
 
 pub solve-writes-leading : (s vt lt dt : List ℕ) → SolvedCase s vt lt dt → LeadingWritten s vt lt dt
-unfolding solveAnswer solveValues solveLevels solveVerdicts
+unfolding solveAnswer solution solveValues solveLevels solveVerdicts
 solve-writes-leading s vt lt dt h =
     let c = caseOf s in
     let r = solveRefusal s vt lt dt in
@@ -109,7 +109,7 @@ accepted-each c v l =
 
 -- checking refuses nothing exactly where the input reads, the tables are long enough and what they hold is accepted
 check-none : (s vt lt : List ℕ) → (checkAnswer s vt lt .number ≡ 0) ↔ (Reads s × ((pairCount (caseOf s) ≤ length vt) × ((2 * pairCount (caseOf s) ≤ length lt) × (accepted (caseOf s) vt (levelsIn (pairCount (caseOf s)) lt) ≡ true))))
-unfolding checkAnswer checkRefusal valueFault pairFault
+unfolding checkAnswer checked checkRefusal checkFault valueFault pairFault
 check-none s vt lt =
     let c = caseOf s in
     let N = pairCount c in
@@ -209,11 +209,11 @@ module _ (s vt lt dt : List ℕ) (solved : SolvedCase s vt lt dt) where
   solved-reads = solve-none s vt lt dt .0 (solved .number-zero) .0
 
   value-at : (k : ℕ) → k < pairCount (caseOf s) → getD (solvedValues (caseOf s)) k 0 ≡ getD (solveValues s vt lt dt) k 0
-  unfolding solveValues solveAnswer
+  unfolding solveValues solveAnswer solution
   value-at k h = sym (written-at (solveRefusal s vt lt dt) (solvedValues (caseOf s)) vt (solved .number-zero) k (omega (arith, solved-length (caseOf s))))
 
   target-value : (i : ℕ) → i < length (caseOf s .targets) → getD (solvedValues (caseOf s)) (targetPair (caseOf s) i) 0 ≡ getD (solveVerdicts s vt lt dt) i 0
-  unfolding solveVerdicts solveAnswer
+  unfolding solveVerdicts solveAnswer solution
   target-value i h =
       sym (written-at (solveRefusal s vt lt dt) (verdicts (caseOf s)) dt (solved .number-zero) i (omega (arith, length-verdicts (caseOf s)))
       ∙ verdict-at (caseOf s) i h)
@@ -262,7 +262,7 @@ module _ (s vt lt dt : List ℕ) (solved : SolvedCase s vt lt dt) where
   undenied-only-solved u v st k h = only-solved (caseOf s) (case-sound s) u v st k h ∙ value-at k h
 
   rounds-answered : solveAnswer s vt lt dt .rounds ≡ rounds (caseOf s)
-  unfolding solveAnswer
+  unfolding solveAnswer solution
   rounds-answered = counted-none (solveRefusal s vt lt dt) (rounds (caseOf s)) (solved .number-zero)
 
   pub rounds-counted : RoundsCounted (caseOf s) (solveAnswer s vt lt dt .rounds)

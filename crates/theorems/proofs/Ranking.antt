@@ -13,7 +13,7 @@ use Rattle.cases.specs.Case.{Case}
 use Rattle.cases.specs.Reading.{outcome}
 use Rattle.cases.specs.declared.reading.Refusal.{Refusal}
 use Rattle.semantics.specs.Denial.{OwnDenial, ownDenial, MostNots, stratum, strata}
-use Rattle.semantics.specs.Operations.{firstOf, refuseUnless, tooShort, caseOf, rankRefusal, rankAnswer, rankStrata}
+use Rattle.semantics.specs.Operations.{firstOf, refuseUnless, tooShort, caseOf, rankRefusal, rankAnswer, rankStrata, ranked, rankFault, denialFault}
 use Rattle.semantics.proofs.Levels.{getD-numbers, length-numbers}
 use Rattle.semantics.proofs.Denial.{Undenied, own-denial-exactly, stratum-most}
 use Rattle.theorems.proofs.Refusals.{orElse-none, orElse-later, unless-none, unless-place, short-none, short-small, first-none, first-refuses, reading-small, case-sound, written-at}
@@ -40,14 +40,14 @@ denial-none s k h =
 
 -- ranking refuses nothing exactly where the input reads, the table is long enough and no shape depends on its own denial
 rank-none : (s table : List ℕ) → (rankAnswer s table .number ≡ 0) ↔ (Reads s × ((length (caseOf s .shapes) ≤ length table) × ((k : ℕ) → k < length (caseOf s .shapes) → OwnDenial (caseOf s) k → ⊥)))
-unfolding rankAnswer rankRefusal
+unfolding rankAnswer ranked rankRefusal rankFault denialFault
 rank-none s table =
     let S = length (caseOf s .shapes) in
     orElse-none _ _ Iff·rfl (orElse-none _ _ (short-none 16 S table (omega arith)) (first-none S (denial (caseOf s)) (denial-none s)))
 
 -- 17 is above the other numbers of ranking
 rank-17 : (s table : List ℕ) → rankRefusal s table .number ≡ 17 → rankRefusal s table ≡ firstOf (upTo (length (caseOf s .shapes))) (denial (caseOf s))
-unfolding rankRefusal
+unfolding rankRefusal rankFault denialFault
 rank-17 s table h =
     let S = length (caseOf s .shapes) in
     let later = orElse-later (outcome s .refusal) _ 9 17 (reading-small s) (omega arith) h in
@@ -55,7 +55,7 @@ rank-17 s table h =
 
 -- So 17 comes from the first shape whose test fails, and its test is exactly the closed walk.
 pub refusal-17-is-real : (s table : List ℕ) → rankAnswer s table .number ≡ 17 → LowestDenied s (rankAnswer s table .place)
-unfolding rankAnswer
+unfolding rankAnswer ranked
 refusal-17-is-real s table h =
     let c = caseOf s in
     let e = rank-17 s table h in
@@ -79,7 +79,7 @@ ranked-undenied s table h = record { none = rank-none s table .0 h .1 .1 }
 
 -- each byte is the most nots on a walk from its shape
 pub ranked-bytes : (s table : List ℕ) → rankAnswer s table .number ≡ 0 → (k : ℕ) → k < length (caseOf s .shapes) → MostNots (caseOf s) k (getD (rankStrata s table) k 0)
-unfolding rankAnswer rankStrata strata
+unfolding rankAnswer ranked rankStrata strata
 ranked-bytes s table h k hk =
     let c = caseOf s in
     let S = length (caseOf s .shapes) in

@@ -189,9 +189,9 @@ unfolding starred ring oneNode clash notItself orItself twoPaths noFillers lent 
     Solving.solvedLevels Solving.targetValues Solving.verdicts
     Denial.nots Denial.refers Denial.ownDenial
     Operations.orElse Operations.firstOf Operations.refuseUnless Operations.tooShort Operations.counted Operations.written
-    Operations.tally Operations.levelBytes Operations.levelsIn Operations.caseOf Operations.solveRefusal Operations.solveAnswer
-    Operations.solveValues Operations.solveLevels Operations.solveVerdicts Operations.checkRefusal Operations.valueFault Operations.pairFault Operations.checkAnswer
-    Operations.rankRefusal Operations.rankAnswer Operations.rankStrata
+    Operations.tally Operations.levelBytes Operations.levelsIn Operations.caseOf Operations.solveRefusal Operations.solveFault Operations.solveAnswer Operations.solution
+    Operations.solveValues Operations.solveLevels Operations.solveVerdicts Operations.checkRefusal Operations.checkFault Operations.valueFault Operations.pairFault Operations.checkAnswer Operations.checked
+    Operations.rankRefusal Operations.rankFault Operations.denialFault Operations.rankAnswer Operations.ranked Operations.rankStrata
 starred-samples =
     (refl, (refl, (refl, (refl, (refl, (refl, (refl, (not-itself, (refl, (refl, (refl, tt)))))))))))
   where

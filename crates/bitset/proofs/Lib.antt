@@ -1,0 +1,3 @@
+-- The laws of the bits of words and of membership in rows, and the proofs of the functions.
+pub mod Bits
+pub mod Members

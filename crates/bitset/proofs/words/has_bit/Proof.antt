@@ -1,0 +1,16 @@
+-- `bitset::words::has_bit` meets its contract: a shift and a remainder are the definition of a bit. Assumes nothing.
+use mathlib.Core.Path.{refl}
+use borrow.Author.Needs.{needs}
+use Rattle.bitset.specs.Words.{bit}
+use Rattle.bitset.proofs.words.has_bit.Statement.{statement}
+use Rattle.bitset.proofs.words.has_bit.Tie as tie
+
+shr-result : tie.Need-shr-result
+shr-result c = search needs
+
+returns : tie.Need-returns
+unfolding bit
+returns c = refl
+
+pub has-bit-spec : {M : Type 1} → statement M
+has-bit-spec = tie.close (tie.spec shr-result returns)

@@ -1,0 +1,2 @@
+-- Membership in the rows of a table of words, and what the functions on rows leave.
+pub mod Words

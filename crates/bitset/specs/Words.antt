@@ -1,0 +1,38 @@
+-- Bits of words, membership in the rows of a table of w words a row, and what the functions on rows leave. Assumes nothing.
+use Prim.Native.Nat.{ℕ, _+_, _*_, _/_, _%_, _^_, _<_, _≤_}
+use mathlib.Core.Path.{_≡_}
+use mathlib.Core.Bool.{Bool, true, false, _&&_, _||_}
+use mathlib.Core.List.{List}
+use lib.ListN.{length, getD}
+use lib.Dec.{eqb}
+
+-- bit j of a word
+unfoldable pub bit : ℕ → ℕ → Bool
+bit x j = eqb (x / 2 ^ j % 2) 1
+
+-- b is in row r of a table of w words a row
+unfoldable pub member : List ℕ → ℕ → ℕ → ℕ → Bool
+member t w r b = bit (getD t (r * w + b / 64) 0) (b % 64)
+
+-- the table has row r
+pub record Row (t : List ℕ) (w r : ℕ) : Type 0 where
+  pub fits : r * w + w ≤ length t
+
+-- a word with bit j set
+pub record WithBit (x j y : ℕ) : Type 0 where
+  pub bits : (i : ℕ) → i < 64 → bit y i ≡ (eqb i j || bit x i)
+
+-- b was put into row r; every other member is as it was
+pub record Inserted (t : List ℕ) (w r b : ℕ) (t′ : List ℕ) : Type 0 where
+  pub members : (q m : ℕ) → m < 64 * w → member t′ w q m ≡ ((eqb q r && eqb m b) || member t w q m)
+  pub long : length t′ ≡ length t
+
+-- row from was added to row into; every other row is as it was
+pub record Joined (t : List ℕ) (w into from : ℕ) (t′ : List ℕ) : Type 0 where
+  pub members : (q m : ℕ) → m < 64 * w → member t′ w q m ≡ ((eqb q into && member t w from m) || member t w q m)
+  pub long : length t′ ≡ length t
+
+-- every row was emptied
+pub record Cleared (t t′ : List ℕ) : Type 0 where
+  pub members : (w r b : ℕ) → member t′ w r b ≡ false
+  pub long : length t′ ≡ length t

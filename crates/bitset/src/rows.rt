@@ -1,0 +1,118 @@
+// Rows of a table: membership, insertion, union, and the tests and counts on two rows.
+use crate::words::has_bit;
+use crate::words::with_bit;
+ghost use mathlib.Core.Path.{_≡_};
+ghost use mathlib.Core.Bool.{_&&_, _||_, not, Bool·beq};
+ghost use Prim.Native.Nat.{_*_, _^_, _<_};
+ghost use lib.ListN.{length};
+ghost use Rattle.fixpoint.specs.Lists.{upTo, all, count};
+ghost use Rattle.bitset.specs.Words.{member, Row, Inserted, Joined, Cleared};
+
+// Whether b is in row r.
+pub fn is_member(t: &[u64], w: usize, r: usize, b: usize) -> bool
+    requires { ⌜ Row (now t) w r ⌝ }
+    requires { ⌜ b < 64 * w ⌝ }
+    ensures { λ x. ⌜ x ≡ member (now (t .entry)) w r b ⌝ }
+{
+    let at = r * w + b / 64;
+    has_bit(t[at], b % 64)
+}
+
+// Puts b into row r.
+pub fn insert(t: &mut [u64], w: usize, r: usize, b: usize)
+    requires { ⌜ Row (now t) w r ⌝ }
+    requires { ⌜ b < 64 * w ⌝ }
+    ensures { λ _. ⌜ Inserted (now (t .entry)) w r b (now (t .exit)) ⌝ }
+{
+    let at = r * w + b / 64;
+    let word = with_bit(t[at], b % 64);
+    t[at] = word;
+}
+
+// Adds row `from` to row `into`.
+pub fn join(t: &mut [u64], w: usize, into: usize, from: usize)
+    requires { ⌜ Row (now t) w into ⌝ }
+    requires { ⌜ Row (now t) w from ⌝ }
+    ensures { λ _. ⌜ Joined (now (t .entry)) w into from (now (t .exit)) ⌝ }
+{
+    let mut i = 0;
+    while i < w {
+        let word = t[into * w + i] | t[from * w + i];
+        t[into * w + i] = word;
+        i += 1;
+    }
+}
+
+// Empties every row.
+pub fn clear(t: &mut [u64])
+    ensures { λ _. ⌜ Cleared (now (t .entry)) (now (t .exit)) ⌝ }
+{
+    let mut i = 0;
+    while i < t.len() {
+        t[i] = 0;
+        i += 1;
+    }
+}
+
+// Makes t the same table as u.
+pub fn copy(t: &mut [u64], u: &[u64])
+    requires { ⌜ length (now t) ≡ length (now u) ⌝ }
+    ensures { λ _. ⌜ now (t .exit) ≡ now (u .entry) ⌝ }
+{
+    let mut i = 0;
+    while i < t.len() {
+        let word = u[i];
+        t[i] = word;
+        i += 1;
+    }
+}
+
+// Whether all of row r of t is in row s of u.
+pub fn is_subset(t: &[u64], r: usize, u: &[u64], s: usize, w: usize) -> bool
+    requires { ⌜ Row (now t) w r ⌝ }
+    requires { ⌜ Row (now u) w s ⌝ }
+    ensures { λ x. ⌜ x ≡ all (upTo (64 * w)) (λ b. not (member (now (t .entry)) w r b) || member (now (u .entry)) w s b) ⌝ }
+{
+    let mut i = 0;
+    while i < w {
+        let word = t[r * w + i];
+        if word & u[s * w + i] != word {
+            return false;
+        }
+        i += 1;
+    }
+    true
+}
+
+// Whether rows r and s of t are the same set.
+pub fn is_same(t: &[u64], r: usize, s: usize, w: usize) -> bool
+    requires { ⌜ Row (now t) w r ⌝ }
+    requires { ⌜ Row (now t) w s ⌝ }
+    ensures { λ x. ⌜ x ≡ all (upTo (64 * w)) (λ b. Bool·beq (member (now (t .entry)) w r b) (member (now (t .entry)) w s b)) ⌝ }
+{
+    let mut i = 0;
+    while i < w {
+        if t[r * w + i] != t[s * w + i] {
+            return false;
+        }
+        i += 1;
+    }
+    true
+}
+
+// How many numbers are both in row r of t and in row s of u: set bits, counted by ones.
+pub fn count_common(t: &[u64], r: usize, u: &[u64], s: usize, w: usize) -> usize
+    requires { ⌜ Row (now t) w r ⌝ }
+    requires { ⌜ Row (now u) w s ⌝ }
+    requires { ⌜ 64 * w < 2 ^ 64 ⌝ }
+    ensures { λ x. ⌜ x ≡ count (upTo (64 * w)) (λ b. member (now (t .entry)) w r b && member (now (u .entry)) w s b) ⌝ }
+{
+    let mut n = 0;
+    let mut i = 0;
+    while i < w {
+        let common = t[r * w + i] & u[s * w + i];
+        n += u64::count_ones(common) as usize;
+        i += 1;
+    }
+    n
+}

@@ -1,0 +1,2 @@
+-- What checking answers, and what its parts leave.
+pub mod Checking

@@ -1,0 +1,69 @@
+// The exports for C, thin over the entry points. A slice passes as a pointer and a length, an answer as a struct by value.
+use crate::checking;
+use crate::ranking;
+use crate::solving;
+use cases::reading::Reading;
+use cases::reading::read;
+use semantics::answers::Checked;
+use semantics::answers::Ranked;
+use semantics::answers::Solution;
+ghost use mathlib.Core.Path.{_≡_};
+ghost use Rattle.cases.specs.Reading.{reading};
+ghost use Rattle.semantics.specs.Operations.{checkRefusal, checkAnswer, rankAnswer, rankStrata};
+ghost use Rattle.judge.specs.Given.{SolvedAs, NumberedAs};
+
+// Solves, for the crew desk: the refusal number, 0 for none.
+#[no_mangle]
+pub extern "C" fn solve(
+    case: &[u8],
+    values: &mut [u8],
+    levels: &mut [u8],
+    verdicts: &mut [u8],
+) -> usize
+    ensures { λ r. ⌜ NumberedAs (now (case .entry)) (now (values .entry)) (now (levels .entry)) (now (verdicts .entry)) r (now (values .exit)) (now (levels .exit)) (now (verdicts .exit)) ⌝ }
+{
+    let answer = solving::solve(case, values, levels, verdicts);
+    answer.number
+}
+
+// Checks, for the crew desk: the refusal number, 0 for none.
+#[no_mangle]
+pub extern "C" fn check(case: &[u8], values: &[u8], levels: &[u8]) -> usize
+    ensures { λ r. ⌜ r ≡ checkAnswer (now (case .entry)) (now (values .entry)) (now (levels .entry)) .number ⌝ }
+{
+    let answer = checking::check(case, values, levels);
+    answer.number
+}
+
+#[no_mangle]
+pub extern "C" fn judge_read(case: &[u8]) -> Reading
+    ensures { λ r. ⌜ r ≡ reading (now (case .entry)) ⌝ }
+{
+    read(case)
+}
+
+#[no_mangle]
+pub extern "C" fn judge_solve(
+    case: &[u8],
+    values: &mut [u8],
+    levels: &mut [u8],
+    verdicts: &mut [u8],
+) -> Solution
+    ensures { λ r. ⌜ SolvedAs (now (case .entry)) (now (values .entry)) (now (levels .entry)) (now (verdicts .entry)) r (now (values .exit)) (now (levels .exit)) (now (verdicts .exit)) ⌝ }
+{
+    solving::solve(case, values, levels, verdicts)
+}
+
+#[no_mangle]
+pub extern "C" fn judge_check(case: &[u8], values: &[u8], levels: &[u8]) -> Checked
+    ensures { λ r. ⌜ r ≡ checkAnswer (now (case .entry)) (now (values .entry)) (now (levels .entry)) ⌝ }
+{
+    checking::check(case, values, levels)
+}
+
+#[no_mangle]
+pub extern "C" fn judge_rank(case: &[u8], strata: &mut [u8]) -> Ranked
+    ensures { λ r. ⌜ (r ≡ rankAnswer (now (case .entry)) (now (strata .entry))) × (now (strata .exit) ≡ rankStrata (now (case .entry)) (now (strata .entry))) ⌝ }
+{
+    ranking::rank(case, strata)
+}

@@ -1,0 +1,217 @@
+// Solves, checks and ranks the samples of document 01 and meets each refusal 10 to 17, and prints what the entry points answer.
+use judge::checking::check;
+use judge::ranking::rank;
+use judge::solving::solve;
+use libc::STDOUT_FILENO;
+
+fn print(text: &[u8]) {
+    io::write_all(STDOUT_FILENO, text);
+}
+
+fn number(n: usize) {
+    print(b" ");
+    io::print_decimal(STDOUT_FILENO, n as u64);
+}
+
+// The ring case: fittings 2 and 3 relay only for each other.
+fn ring() -> [u8; 54] {
+    [
+        0x01,
+        0x04,
+        0x00,
+        0x02,
+        0x00,
+        0x01,
+        0x00,
+        0x00,
+        0x00,
+        0x02,
+        0x00,
+        0x02,
+        0x00,
+        0x03,
+        0x00,
+        0x02,
+        0x00,
+        0x03,
+        0x00,
+        0x02,
+        0x00,
+        0x02,
+        0x01,
+        0x00,
+        0x00,
+        0x00,
+        0x00,
+        0x10,
+        0x00,
+        0x10,
+        0x01,
+        0x20,
+        0x27,
+        0x01,
+        0x01,
+        0x00,
+        0x27,
+        0x01,
+        0x00,
+        0x03,
+        0x23,
+        0x01,
+        0x02,
+        0x24,
+        0x03,
+        0x30,
+        0x03,
+        0x01,
+        0x00,
+        0x30,
+        0x03,
+        0x02,
+        0x00,
+        0xff,
+    ]
+}
+
+// Solves into tables of these lengths: number, place, rounds, valid, undetermined, sure, open, impossible.
+fn show_solve(name: &[u8], case: &[u8], values: &mut [u8], levels: &mut [u8], verdicts: &mut [u8]) {
+    let r = solve(case, values, levels, verdicts);
+    print(name);
+    print(b":");
+    number(r.number);
+    number(r.place);
+    number(r.rounds);
+    number(r.valid);
+    number(r.undetermined);
+    number(r.sure);
+    number(r.open);
+    number(r.impossible);
+    print(b"\n");
+}
+
+// Checks a proposal: number, place, undetermined, valid targets.
+fn show_check(name: &[u8], case: &[u8], values: &[u8], levels: &[u8]) {
+    let r = check(case, values, levels);
+    print(name);
+    print(b":");
+    number(r.number);
+    number(r.place);
+    number(r.undetermined);
+    number(r.valid);
+    print(b"\n");
+}
+
+// Ranks into a table of this length: number, place, strata.
+fn show_rank(name: &[u8], case: &[u8], strata: &mut [u8]) {
+    let r = rank(case, strata);
+    print(name);
+    print(b":");
+    number(r.number);
+    number(r.place);
+    number(r.strata);
+    print(b"\n");
+}
+
+fn solve_ring() {
+    let ring = ring();
+    let mut values = [0u8; 20];
+    let mut levels = [0u8; 40];
+    let mut verdicts = [0u8; 2];
+    show_solve(b"ring", &ring, &mut values, &mut levels, &mut verdicts);
+    show_check(b"ring solved", &ring, &values, &levels);
+}
+
+// A small case in tables that are long enough.
+fn solve_small(name: &[u8], case: &[u8]) {
+    let mut values = [0u8; 20];
+    let mut levels = [0u8; 40];
+    let mut verdicts = [0u8; 2];
+    show_solve(name, case, &mut values, &mut levels, &mut verdicts);
+}
+
+// Each table one byte short, with the later ones short too.
+fn solve_short() {
+    let ring = ring();
+    let mut values = [0u8; 20];
+    let mut levels = [0u8; 40];
+    let mut short_values = [0u8; 19];
+    let mut short_levels = [0u8; 39];
+    let mut short_verdicts = [0u8; 1];
+    show_solve(
+        b"10",
+        &ring,
+        &mut short_values,
+        &mut short_levels,
+        &mut short_verdicts,
+    );
+    show_solve(
+        b"11",
+        &ring,
+        &mut values,
+        &mut short_levels,
+        &mut short_verdicts,
+    );
+    show_solve(b"12", &ring, &mut values, &mut levels, &mut short_verdicts);
+}
+
+fn solving() {
+    solve_ring();
+    solve_small(
+        b"clash",
+        b"\x01\x01\x00\x02\x00\x00\x00\x00\x00\x24\x01\x24\x00\xff",
+    );
+    solve_small(b"no nodes", b"\x01\x00\x00\xff");
+    solve_small(b"3 unread", b"");
+    solve_short();
+}
+
+fn checking() {
+    let ring = ring();
+    let clash = b"\x01\x01\x00\x02\x00\x00\x00\x00\x00\x24\x01\x24\x00\xff";
+    show_check(
+        b"15 ring accepted by its lines alone",
+        &ring,
+        b"\x02\x02\x02\x02\x02\x00\x00\x00\x00\x02\x02\x02\x02\x02\x02\x02\x00\x00\x00\x00",
+        b"\x01\x00\x01\x00\x01\x00\x01\x00\x02\x00\x00\x00\x00\x00\x00\x00\x00\x00\x04\x00\x09\x00\x09\x00\x03\x00\x05\x00\x05\x00\x05\x00\x00\x00\x00\x00\x00\x00\x00\x00",
+    );
+    show_check(b"clash 2 0", clash, b"\x02\x00", b"\x01\x00\x00\x00");
+    show_check(b"clash 0 2", clash, b"\x00\x02", b"\x00\x00\x01\x00");
+    show_check(b"clash 1 1", clash, b"\x01\x01", b"\x01\x00\x01\x00");
+    show_check(b"14 clash 2 2", clash, b"\x02\x02", b"\x01\x00\x01\x00");
+    show_check(b"15 level 0", clash, b"\x02\x00", b"\x00\x00\x00\x00");
+    show_check(b"13 before 14", clash, b"\x02\x03", b"\x01\x00\x01\x00");
+    show_check(b"10", clash, b"\x02", b"\x01\x00\x01\x00");
+    show_check(b"11", clash, b"\x02\x00", b"\x01\x00\x00");
+    show_check(b"8 unread", b"\x01\x00\x00\xff\x00", b"", b"");
+}
+
+fn ranking() {
+    let ring = ring();
+    let mut strata = [0u8; 5];
+    let mut short = [0u8; 4];
+    show_rank(b"ring", &ring, &mut strata);
+    show_rank(b"16", &ring, &mut short);
+    show_rank(
+        b"17 clash",
+        b"\x01\x01\x00\x02\x00\x00\x00\x00\x00\x24\x01\x24\x00\xff",
+        &mut strata,
+    );
+    show_rank(
+        b"17 not the first",
+        b"\x01\x01\x00\x20\x24\x02\x22\x01\x00\xff",
+        &mut strata,
+    );
+    show_rank(
+        b"double not",
+        b"\x01\x01\x00\x24\x01\x24\x02\x20\xff",
+        &mut strata,
+    );
+    show_rank(b"no shapes", b"\x01\x00\x00\xff", &mut strata);
+    show_rank(b"2 unread", b"\xff", &mut strata);
+}
+
+fn main() {
+    solving();
+    checking();
+    ranking();
+}

@@ -1,0 +1,2 @@
+-- What ranking asks and leaves, over the tables.
+pub mod Ranks

@@ -1,0 +1,52 @@
+/* Solves the ring case, checks the solution, ranks the shapes, and prints the verdicts. Build it as tests/example/run does. */
+#include <stdio.h>
+
+#include "judge.h"
+
+/* Fitting 1 relays to gateway 0; fittings 2 and 3 relay only for each other. Shape 3 is "linked". */
+static const uint8_t ring[] = {
+    0x01, 0x04, 0x00,
+    0x02, 0x00, 0x01, 0x00, 0x00, 0x00,
+    0x02, 0x00, 0x02, 0x00, 0x03, 0x00,
+    0x02, 0x00, 0x03, 0x00, 0x02, 0x00,
+    0x02, 0x01, 0x00, 0x00, 0x00, 0x00,
+    0x10, 0x00, 0x10, 0x01,
+    0x20, 0x27, 0x01, 0x01, 0x00, 0x27, 0x01, 0x00, 0x03, 0x23, 0x01, 0x02, 0x24, 0x03,
+    0x30, 0x03, 0x01, 0x00, 0x30, 0x03, 0x02, 0x00,
+    0xff,
+};
+
+static const char *const words[] = {"impossible", "open", "sure"};
+
+int main(void)
+{
+    uint8_t values[JUDGE_MOST_PAIRS];
+    uint8_t levels[JUDGE_MOST_LEVEL_BYTES];
+    uint8_t verdicts[JUDGE_MOST_TARGETS];
+    uint8_t strata[JUDGE_MOST_SHAPES];
+
+    struct judge_reading read = judge_read(ring, sizeof ring);
+    if (read.number != 0) {
+        printf("refused %zu at %zu\n", read.number, read.place);
+        return 1;
+    }
+    struct judge_solution solved = judge_solve(ring, sizeof ring, values, sizeof values, levels, sizeof levels, verdicts, sizeof verdicts);
+    if (solved.number != 0) {
+        printf("refused %zu at %zu\n", solved.number, solved.place);
+        return 1;
+    }
+    printf("%zu rounds, %zu pairs valid, %zu undetermined\n", solved.rounds, solved.valid, solved.undetermined);
+    for (size_t i = 0; i < read.targets; i++)
+        printf("target %zu: %s\n", i, words[verdicts[i]]);
+
+    struct judge_checked checked = judge_check(ring, sizeof ring, values, sizeof values, levels, sizeof levels);
+    printf("check: %zu, %zu valid targets\n", checked.number, checked.valid);
+    struct judge_ranked ranked = judge_rank(ring, sizeof ring, strata, sizeof strata);
+    printf("rank: %zu, %zu strata\n", ranked.number, ranked.strata);
+
+    /* The desk's own calls answer the refusal number alone. */
+    size_t again = solve(ring, sizeof ring, values, sizeof values, levels, sizeof levels, verdicts, sizeof verdicts);
+    size_t taken = check(ring, sizeof ring, values, sizeof values, levels, sizeof levels);
+    printf("desk: solve %zu, check %zu\n", again, taken);
+    return (int)(checked.number + ranked.number + again + taken);
+}

@@ -1,0 +1,123 @@
+/* The cabinet judge: reads a case, solves it, checks proposals and ranks shapes by denial.
+ *
+ * Link with libjudge.a, which `rt staticlib judge` writes to target/staticlib/ (x86-64 Linux). The library keeps no state, allocates
+ * nothing and calls nothing: any number of threads may call it at once, each on its own tables. A call uses about 100 KiB of stack.
+ *
+ * Every slice is a pointer and a length in bytes. A length of 0 needs no valid pointer but a non-null, suitably aligned one: pass the
+ * address of any byte. Slices of one call must not overlap where one of them is written. The library reads and writes nothing outside
+ * them.
+ *
+ * A case is a string of commands; its format is described in the scope document. A pair is a shape and a node, its number is
+ * shape * nodes + node, and the pair count is shapes * nodes, at most 4,096. A value is 0 violated, 1 undetermined or 2 valid. A level
+ * is two bytes, low byte first.
+ *
+ * Every answer starts with a refusal number, 0 for none, and its place. A refused call writes nothing, and every count of its answer is
+ * 0. Otherwise the leading entries of the tables are written and all later bytes keep their contents.
+ *
+ *   number  refused because                                              place
+ *   1       unknown command byte                                         the command's offset
+ *   2       command out of order                                         the command's offset
+ *   3       the input ends before the command or its operands do         the command's offset, or the input's length
+ *   4       a limit is exceeded                                          the command's offset
+ *   5       a node operand is not below the node count                   the command's offset
+ *   6       a path operand is not an earlier path                        the command's offset
+ *   7       a least number is 0                                          the command's offset
+ *   8       bytes after the end command                                  the first of them
+ *   9       a shape operand is not in the case                           the first such command's offset
+ *   10      the value table is shorter than the pair count               the length needed
+ *   11      the level table is shorter than twice the pair count         the length needed
+ *   12      the verdict table is shorter than the number of targets      the length needed
+ *   13      a value is above 2                                           the first such pair
+ *   14      a value is not its rule's                                    the pair
+ *   15      a value 1 or 2 is not justified by its level                 the pair
+ *   16      the strata table is shorter than the number of shapes        the length needed
+ *   17      a shape depends on its own denial                            the lowest such shape
+ */
+#ifndef JUDGE_H
+#define JUDGE_H
+
+#include <stddef.h>
+#include <stdint.h>
+
+#ifdef __cplusplus
+extern "C" {
+#endif
+
+/* The tables that are long enough for every case. */
+#define JUDGE_MOST_PAIRS 4096
+#define JUDGE_MOST_LEVEL_BYTES 8192
+#define JUDGE_MOST_TARGETS 256
+#define JUDGE_MOST_SHAPES 32
+
+/* What reading answers: the counts of the case, repeats included. */
+struct judge_reading {
+    size_t number;
+    size_t place;
+    size_t nodes;
+    size_t edges;
+    size_t paths;
+    size_t shapes;
+    size_t targets;
+};
+
+/* What solving answers: the rounds, the valid and the undetermined pairs, and the targets that are sure, open and impossible. */
+struct judge_solution {
+    size_t number;
+    size_t place;
+    size_t rounds;
+    size_t valid;
+    size_t undetermined;
+    size_t sure;
+    size_t open;
+    size_t impossible;
+};
+
+/* What checking answers: the undetermined pairs and the valid targets of an accepted proposal. */
+struct judge_checked {
+    size_t number;
+    size_t place;
+    size_t undetermined;
+    size_t valid;
+};
+
+/* What ranking answers: the number of strata, one more than the largest byte, 0 for no shapes. */
+struct judge_ranked {
+    size_t number;
+    size_t place;
+    size_t strata;
+};
+
+/* Reads a case. Refusals 1 to 9. */
+struct judge_reading judge_read(const uint8_t *case_bytes, size_t case_length);
+
+/* Solves a case. Refusals 1 to 12. Writes a value for each pair, two level bytes for each pair, and a verdict for each target: 2 sure,
+ * 1 open, 0 impossible. A target is sure (impossible) exactly when every stable assignment of the case has it valid (violated). */
+struct judge_solution judge_solve(const uint8_t *case_bytes, size_t case_length,
+                                  uint8_t *values, size_t values_length,
+                                  uint8_t *levels, size_t levels_length,
+                                  uint8_t *verdicts, size_t verdicts_length);
+
+/* Checks a proposal: a value and a level for each pair. Refusals 1 to 11, 13, 14, 15. Writes nothing. Bytes past the pairs are not read. */
+struct judge_checked judge_check(const uint8_t *case_bytes, size_t case_length,
+                                 const uint8_t *values, size_t values_length,
+                                 const uint8_t *levels, size_t levels_length);
+
+/* Ranks the shapes: writes a byte for each, the most nots on a walk of references from it. Refusals 1 to 9, 16, 17. */
+struct judge_ranked judge_rank(const uint8_t *case_bytes, size_t case_length,
+                               uint8_t *strata, size_t strata_length);
+
+/* The same solve and check for the crew desk: the refusal number alone, 0 for none. */
+size_t solve(const uint8_t *case_bytes, size_t case_length,
+             uint8_t *values, size_t values_length,
+             uint8_t *levels, size_t levels_length,
+             uint8_t *verdicts, size_t verdicts_length);
+
+size_t check(const uint8_t *case_bytes, size_t case_length,
+             const uint8_t *values, size_t values_length,
+             const uint8_t *levels, size_t levels_length);
+
+#ifdef __cplusplus
+}
+#endif
+
+#endif
