@@ -1,12 +1,14 @@
 -- The answers and tables of the entry points, as reading refuses the input or not, and as an operation's own part does. Assumes nothing.
-use Prim.Native.Nat.{ℕ}
+use Prim.Native.Nat.{ℕ, _<_}
+use native.Mathlib.Omega.{arith}
+use mathlib.Core.Bool.{Bool, true, false, false≢true}
 use mathlib.Core.Path.{_≡_, refl, sym, ap, _∙_}
 use mathlib.Core.List.{List, _++_}
 use lib.ListN.{length, drop}
 use lib.Dec.{eqb}
-use borrow.Author.Tests.{eq-eqb, ne-eqb}
+use borrow.Author.Tests.{eqb-true, eq-eqb, ne-eqb}
 use Rattle.cases.specs.Case.{Case}
-use Rattle.cases.specs.Reading.{Outcome, outcome}
+use Rattle.cases.specs.Reading.{Outcome, noRefusal, outcome}
 use Rattle.cases.specs.Sound.{Sound}
 use Rattle.cases.specs.Tables.{TableRoom, caseIn, ParsedAs}
 use Rattle.cases.specs.declared.reading.Parsed.{Parsed}
@@ -15,7 +17,7 @@ use Rattle.cases.proofs.Sound.{outcome-sound}
 use Rattle.semantics.specs.declared.answers.Solution.{Solution}
 use Rattle.semantics.specs.declared.answers.Checked.{Checked}
 use Rattle.semantics.specs.declared.answers.Ranked.{Ranked}
-use Rattle.semantics.specs.Operations.{orElse, counted, written, caseOf, solution, solveFault, solveRefusal, solveAnswer, solveValues, solveLevels, solveVerdicts, checked, checkFault, checkRefusal, checkAnswer, ranked, rankFault, rankRefusal, rankAnswer, rankStrata}
+use Rattle.semantics.specs.Operations.{orElse, refuseUnless, counted, written, caseOf, solution, solveFault, solveRefusal, solveAnswer, solveValues, solveLevels, solveVerdicts, checked, checkFault, checkRefusal, checkAnswer, ranked, rankFault, rankRefusal, rankAnswer, rankStrata}
 use Rattle.judge.specs.Given.{Given, SolvedAs, CaseSolved, RankedAs}
 use Rattle.judge.specs.Refused.{refusedSolution, refusedChecked, refusedRanked}
 
@@ -28,6 +30,27 @@ orElse-first r q h = rw (ne-eqb (r .number) 0 h)
 pub orElse-second : (r q : Refusal) → r .number ≡ 0 → orElse r q ≡ q
 unfolding orElse
 orElse-second r q h = rw (eq-eqb (r .number) 0 h)
+
+pub orElse-assoc : (a b r : Refusal) → orElse a (orElse b r) ≡ orElse (orElse a b) r
+unfolding orElse
+orElse-assoc a b r = go (eqb (a .number) 0) refl
+  where
+    go : (t : Bool) → eqb (a .number) 0 ≡ t → orElse a (orElse b r) ≡ orElse (orElse a b) r
+    go true e = rw e
+    go false e = rw (e, e)
+
+pub orElse-none : (a b : Refusal) → orElse a b .number ≡ 0 → (a .number ≡ 0) × (b .number ≡ 0)
+unfolding orElse
+orElse-none a b h = go (eqb (a .number) 0) refl
+  where
+    go : (t : Bool) → eqb (a .number) 0 ≡ t → (a .number ≡ 0) × (b .number ≡ 0)
+    go true e = (eqb-true (a .number) 0 e, rw e at h)
+    go false e = absurd (false≢true (sym e ∙ eq-eqb (a .number) 0 (rw e at h)))
+
+pub unless-none : (ok : Bool) (n place : ℕ) → 0 < n → refuseUnless ok n place .number ≡ 0 → ok ≡ true
+unfolding refuseUnless noRefusal
+unless-none true n place pos h = refl
+unless-none false n place pos h = absurd (omega arith)
 
 -- a refusal's answer, and that it writes nothing
 pub checked-refused : (r : Refusal) (c : Case) (v : List ℕ) → (r .number ≡ 0 → ⊥) → refusedChecked r ≡ checked r c v

@@ -21,9 +21,8 @@ use Rattle.strata.specs.Ranks.{ShapesOf, RankRoom, Ranking}
 use Rattle.strata.specs.declared.ranks.Ranks.{Ranks}
 use Rattle.judge.specs.Given.{Given, ShapesGiven, RankedAs, RankedFor}
 use Rattle.judge.specs.Refused.{refusedRanked}
-use Rattle.judge.proofs.Answers.{orElse-first, orElse-second, ranked-refused, written-refused, written-all}
-use Rattle.judge.proofs.Preparing.{shapes-bound}
-use Rattle.judge.proofs.Proposals.{unless-none, shapes-are}
+use Rattle.judge.proofs.Answers.{orElse-first, orElse-second, unless-none, ranked-refused, written-refused, written-all}
+use Rattle.judge.proofs.Preparing.{shapes-bound, shapes-are}
 
 abbrev pub shortStrata : Counts → List ℕ → Refusal
 shortStrata k table = refuseUnless (leb (k .shapes) (length table)) 16 (k .shapes)

@@ -4,25 +4,22 @@ use Prim.Native.Nat.{ℕ, _*_, _≤_}
 use native.Mathlib.Nat.{mul-le-mul-right}
 use native.Mathlib.Omega.{arith}
 use mathlib.Core.Path.{_≡_, refl, sym, ap, _∙_}
-use mathlib.Core.Bool.{Bool, true, false, false≢true, and-eq-true-iff}
-use mathlib.Core.Logic.{⊎-elim}
+use mathlib.Core.Bool.{Bool, true, and-eq-true-iff}
 use mathlib.Core.List.{List, [], _∷_, _++_, map}
 use lib.ListN.{length, getD, take, drop, length-map, length-append, List·getD-append}
 use lib.Seq.{take-at}
-use lib.Dec.{eqb, ltb, leb}
-use borrow.Author.Tests.{leb-true, le-leb, ltb-true, eqb-true, eq-eqb}
+use lib.Dec.{ltb, leb}
+use borrow.Author.Tests.{leb-true, le-leb, ltb-true}
 use Rattle.fixpoint.specs.Lists.{all}
 use Rattle.fixpoint.specs.Stages.{Stable}
-use Rattle.fixpoint.proofs.Lists.{bool-cases}
 use Rattle.fixpoint.proofs.Alternating.{solved-stable}
-use Rattle.cases.specs.Case.{Case, countsOf}
+use Rattle.cases.specs.Case.{Case}
 use Rattle.cases.specs.Reading.{noRefusal}
 use Rattle.cases.specs.Sound.{Sound}
 use Rattle.cases.specs.Tables.{caseIn}
 use Rattle.cases.specs.declared.faults.Counts.{Counts}
 use Rattle.cases.specs.declared.reading.Refusal.{Refusal}
-use Rattle.cases.proofs.Storing.{counts-in}
-use Rattle.rules.specs.CaseTables.{TablesOf, Tables}
+use Rattle.rules.specs.CaseTables.{TablesOf}
 use Rattle.semantics.specs.Operations.{orElse, refuseUnless, tooShort, counted, written, tally, levelBytes, solution, solveFault}
 use Rattle.semantics.specs.Solving.{rounds, solvedT, solvedP, solvedValues, levelsOf, solvedLevels, targetValues, verdicts}
 use Rattle.semantics.specs.Stability.{nextSet}
@@ -34,21 +31,18 @@ use Rattle.semantics.proofs.Solved.{solved-length}
 use Rattle.solver.specs.Rounding.{Solved}
 use Rattle.solver.specs.Rounding.{SolvedAs as SetsSolved}
 use Rattle.levels.specs.Steps.{LevelsWritten}
-use Rattle.levels.specs.Writing.{ValuesWritten, TargetsOf, Targets, VerdictsWritten}
+use Rattle.levels.specs.Writing.{ValuesWritten, VerdictsWritten}
 use Rattle.levels.proofs.Marking.{length-bytes, shapes-are}
 use Rattle.judge.specs.Given.{Given, Ready, Proposal, PairsSolved, CaseSolved}
 use Rattle.judge.specs.Refused.{refusedSolution}
-use Rattle.judge.proofs.Answers.{orElse-second, solution-refused, written-refused}
-use Rattle.judge.proofs.Preparing.{shapes-bound, targets-bound}
+use Rattle.judge.proofs.Answers.{orElse-none, unless-none, solution-refused, written-refused}
+use Rattle.judge.proofs.Preparing.{shapes-bound, pairs-are, targets-are, targets-of-given}
 
 -- ---- The pairs
 
 -- 32 shapes of 2 words
 pub sets-bound : {k : Counts} {edges paths shapes targets : List ℕ} → Given k edges paths shapes targets → k .shapes * 2 ≤ 64
 sets-bound g = mul-le-mul-right 2 (shapes-bound g)
-
-pub tables : {k : Counts} {edges paths shapes values levels alive t : List ℕ} → Proposal k edges paths shapes values levels → Ready k edges paths alive t → Tables k 2 shapes alive t
-tables {k} {edges} {paths} {shapes} p r = record { case = caseIn k edges paths shapes (p .targets); tables = r .ready shapes (p .targets) (p .given) }
 
 rests : (c : Case) → Stable (pairCount c) (nextSet c) (solvedT c) (solvedP c)
 unfolding solvedT solvedP
@@ -105,19 +99,6 @@ tallied v {n} l later m e h t = t ∙ ap (λ (x : List ℕ). tally v (take n x))
 
 -- ---- The lengths
 
-refuse-none : (ok : Bool) (n place : ℕ) → (n ≡ 0 → ⊥) → refuseUnless ok n place .number ≡ 0 → ok ≡ true
-unfolding refuseUnless
-refuse-none true n place nz e = refl
-refuse-none false n place nz e = absurd (nz e)
-
-or-none : (r q : Refusal) → orElse r q .number ≡ 0 → (r .number ≡ 0) × (q .number ≡ 0)
-unfolding orElse
-or-none r q e =
-    ⊎-elim
-    (λ t. let z = eqb-true (r .number) 0 t in (z, rw (orElse-second r q z) at e))
-    (λ f. absurd (false≢true (sym f ∙ eq-eqb (r .number) 0 (rw f at e))))
-    (bool-cases (eqb (r .number) 0))
-
 -- the three tables are long enough
 pub record Long (k : Counts) (values levels verdictTable : List ℕ) : Type 0 where
   pub value-room : k .shapes * k .nodes ≤ length values
@@ -128,36 +109,22 @@ module _ {k : Counts} {edges paths shapes targets : List ℕ} (g : Given k edges
   abbrev given-case : Case
   given-case = caseIn k edges paths shapes targets
 
-  pub pairs-are : pairCount given-case ≡ k .shapes * k .nodes
-  unfolding pairCount caseIn countsOf
-  pairs-are = ap (λ (n : Counts). n .shapes * k .nodes) (counts-in k edges paths shapes targets)
+  pairs : pairCount given-case ≡ k .shapes * k .nodes
+  pairs = pairs-are k edges paths shapes targets
 
-  targets-are : length (given-case .targets) ≡ k .targets
-  unfolding countsOf
-  targets-are = ap (λ (n : Counts). n .targets) (counts-in k edges paths shapes targets)
-
-  targets-of : TargetsOf given-case k targets
-  unfolding caseIn countsOf
-  targets-of = record { sound = g .sound; nodes = refl; shapes = ap (λ (n : Counts). n .shapes) (counts-in k edges paths shapes targets); targets-are = refl }
-
-  pub targets-there : (values : List ℕ) → k .shapes * k .nodes ≤ length values → Targets k targets values
-  targets-there values h = record {
-    case = given-case;
-    targets-of = targets-of;
-    target-room = omega (arith, g .room .target-room, targets-bound g);
-    value-room = h;
-  }
+  target-count : length (given-case .targets) ≡ k .targets
+  target-count = targets-are k edges paths shapes targets
 
   pub values-there : {values levels values′ levels′ : List ℕ} {r : ℕ} → PairsSolved k edges paths shapes values levels r values′ levels′ → k .shapes * k .nodes ≤ length values′
   values-there {values} p =
       rw (p .values-left targets g given-case refl)
-      (omega (arith, length-append (solvedValues given-case) (drop (pairCount given-case) values), solved-length given-case, pairs-are))
+      (omega (arith, length-append (solvedValues given-case) (drop (pairCount given-case) values), solved-length given-case, pairs))
 
   pub verdicts-there : {values verdictTable verdicts′ : List ℕ} → VerdictsWritten k targets values verdictTable verdicts′ → k .targets ≤ length verdicts′
   unfolding targetValues
   verdicts-there {values} {verdictTable} w =
-      rw (w .right given-case targets-of)
-      (omega (arith, length-append (targetValues given-case values) (drop (length (given-case .targets)) verdictTable), length-map (given-case .targets) (λ t. getD values (pairOf given-case (t .shape .0) (t .node .0)) 0), targets-are))
+      rw (w .right given-case (targets-of-given g))
+      (omega (arith, length-append (targetValues given-case values) (drop (length (given-case .targets)) verdictTable), length-map (given-case .targets) (λ t. getD values (pairOf given-case (t .shape .0) (t .node .0)) 0), target-count))
 
   pub proposal : {values levels verdictTable : List ℕ} → Long k values levels verdictTable → Proposal k edges paths shapes values levels
   proposal h = record { targets = targets; given = g; value-room = h .value-room; level-room = h .level-room }
@@ -168,7 +135,7 @@ module _ {k : Counts} {edges paths shapes targets : List ℕ} (g : Given k edges
 
     pub fault-is : {a b c d r : Refusal} → a ≡ refuseUnless (leb (k .shapes * k .nodes) (length values)) 10 (k .shapes * k .nodes) → b ≡ refuseUnless (leb (2 * (k .shapes * k .nodes)) (length levels)) 11 (2 * (k .shapes * k .nodes)) → c ≡ refuseUnless (leb (k .targets) (length verdictTable)) 12 (k .targets) → d ≡ orElse b c → r ≡ orElse a d → r ≡ fault
     unfolding solveFault tooShort
-    fault-is ea eb ec ed er = rw (pairs-are, targets-are, ← ea, ← eb, ← ec, ← ed) er
+    fault-is ea eb ec ed er = rw (pairs, target-count, ← ea, ← eb, ← ec, ← ed) er
 
     pub fault-left : {r : Refusal} → r ≡ fault → (r .number ≡ 0 → ⊥) → CaseSolved given-case values levels verdictTable (refusedSolution r) values levels verdictTable
     fault-left {r} e nz =
@@ -183,26 +150,26 @@ module _ {k : Counts} {edges paths shapes targets : List ℕ} (g : Given k edges
     unfolding solveFault tooShort
     long {r} e z =
         let f : fault .number ≡ 0 = rw (← e) z in
-        let p = or-none (tooShort 10 (pairCount given-case) values) _ f in
-        let q = or-none (tooShort 11 (2 * pairCount given-case) levels) (tooShort 12 (length (given-case .targets)) verdictTable) (p .1) in
+        let p = orElse-none (tooShort 10 (pairCount given-case) values) _ f in
+        let q = orElse-none (tooShort 11 (2 * pairCount given-case) levels) (tooShort 12 (length (given-case .targets)) verdictTable) (p .1) in
         record {
-          value-room = rw pairs-are at (leb-true (pairCount given-case) (length values) (refuse-none (leb (pairCount given-case) (length values)) 10 (pairCount given-case) (omega arith) (p .0)));
-          level-room = rw pairs-are at (leb-true (2 * pairCount given-case) (length levels) (refuse-none (leb (2 * pairCount given-case) (length levels)) 11 (2 * pairCount given-case) (omega arith) (q .0)));
-          verdict-room = rw targets-are at (leb-true (length (given-case .targets)) (length verdictTable) (refuse-none (leb (length (given-case .targets)) (length verdictTable)) 12 (length (given-case .targets)) (omega arith) (q .1)));
+          value-room = rw pairs at (leb-true (pairCount given-case) (length values) (unless-none (leb (pairCount given-case) (length values)) 10 (pairCount given-case) (omega arith) (p .0)));
+          level-room = rw pairs at (leb-true (2 * pairCount given-case) (length levels) (unless-none (leb (2 * pairCount given-case) (length levels)) 11 (2 * pairCount given-case) (omega arith) (q .0)));
+          verdict-room = rw target-count at (leb-true (length (given-case .targets)) (length verdictTable) (unless-none (leb (length (given-case .targets)) (length verdictTable)) 12 (length (given-case .targets)) (omega arith) (q .1)));
         }
 
     fault-none : Long k values levels verdictTable → fault ≡ noRefusal
     unfolding solveFault tooShort orElse refuseUnless noRefusal
-    fault-none h = rw (pairs-are, targets-are, le-leb _ _ (h .value-room), le-leb _ _ (h .level-room), le-leb _ _ (h .verdict-room))
+    fault-none h = rw (pairs, target-count, le-leb _ _ (h .value-room), le-leb _ _ (h .level-room), le-leb _ _ (h .verdict-room))
 
     pub case-solved : {values′ levels′ verdicts′ : List ℕ} {r a b x y z : ℕ} → Long k values levels verdictTable → PairsSolved k edges paths shapes values levels r values′ levels′ → VerdictsWritten k targets values′ verdictTable verdicts′ → a ≡ tally 2 (take (k .shapes * k .nodes) values′) → b ≡ tally 1 (take (k .shapes * k .nodes) values′) → x ≡ tally 2 (take (k .targets) verdicts′) → y ≡ tally 1 (take (k .targets) verdicts′) → z ≡ tally 0 (take (k .targets) verdicts′) → CaseSolved given-case values levels verdictTable (record { number = 0; place = 0; rounds = r; valid = a; undetermined = b; sure = x; «open» = y; impossible = z }) values′ levels′ verdicts′
     unfolding solution counted written noRefusal
     case-solved {values′} {levels′} {verdicts′} h p w ea eb ex ey ez =
         let c = given-case in
         let ev : values′ ≡ solvedValues c ++ drop (pairCount c) values = p .values-left targets g c refl in
-        let ed : verdicts′ ≡ verdicts c ++ drop (length (c .targets)) verdictTable = rw (ev, verdicts-read c (g .sound)) at (w .right c targets-of) in
-        let vl = solved-length c ∙ pairs-are in
-        let dl = verdicts-long c ∙ targets-are in
+        let ed : verdicts′ ≡ verdicts c ++ drop (length (c .targets)) verdictTable = rw (ev, verdicts-read c (g .sound)) at (w .right c (targets-of-given g)) in
+        let vl = solved-length c ∙ pairs in
+        let dl = verdicts-long c ∙ target-count in
         record {
           answer = rw (fault-none h, ← p .counted targets g c refl, ← tallied 2 (solvedValues c) _ values′ ev vl ea, ← tallied 1 (solvedValues c) _ values′ ev vl eb, ← tallied 2 (verdicts c) _ verdicts′ ed dl ex, ← tallied 1 (verdicts c) _ verdicts′ ed dl ey, ← tallied 0 (verdicts c) _ verdicts′ ed dl ez);
           values-left = rw (fault-none h, solved-length c) ev;

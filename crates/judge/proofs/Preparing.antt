@@ -13,7 +13,10 @@ use Rattle.cases.specs.declared.faults.Counts.{Counts}
 use Rattle.cases.proofs.Storing.{counts-in}
 use Rattle.fillers.specs.Fillers.{Graph}
 use Rattle.fillers.specs.Filling.{EdgeGraph, FillersFor, LiveFor}
-use Rattle.judge.specs.Given.{Given, Prepare, Ready}
+use Rattle.levels.specs.Writing.{Targets, TargetsOf}
+use Rattle.rules.specs.CaseTables.{Tables}
+use Rattle.semantics.specs.Values.{pairCount}
+use Rattle.judge.specs.Given.{Given, Prepare, Ready, Proposal}
 
 -- ---- The limits, as bounds on the counts
 
@@ -48,6 +51,36 @@ module _ {k : Counts} {edges paths shapes targets : List ℕ} (g : Given k edges
 paths-counted : (k : Counts) (edges paths shapes targets : List ℕ) → length (map pathRuleOf (rows paths (k .paths))) ≡ k .paths
 unfolding countsOf caseIn
 paths-counted k edges paths shapes targets = ap (λ (n : Counts). n .paths) (counts-in k edges paths shapes targets)
+
+-- ---- Counts of the case in the tables
+
+module _ (k : Counts) (edges paths shapes targets : List ℕ) where
+  pub pairs-are : pairCount (caseIn k edges paths shapes targets) ≡ k .shapes * k .nodes
+  unfolding pairCount countsOf caseIn
+  pairs-are = ap (λ (n : Counts). n .shapes * n .nodes) (counts-in k edges paths shapes targets)
+
+  pub shapes-are : length (caseIn k edges paths shapes targets .shapes) ≡ k .shapes
+  unfolding countsOf
+  shapes-are = ap (λ (n : Counts). n .shapes) (counts-in k edges paths shapes targets)
+
+  pub targets-are : length (caseIn k edges paths shapes targets .targets) ≡ k .targets
+  unfolding countsOf
+  targets-are = ap (λ (n : Counts). n .targets) (counts-in k edges paths shapes targets)
+
+pub targets-of-given : {k : Counts} {edges paths shapes targets : List ℕ} → Given k edges paths shapes targets → TargetsOf (caseIn k edges paths shapes targets) k targets
+unfolding caseIn
+targets-of-given {k} {edges} {paths} {shapes} {targets} g =
+    record { sound = g .sound; nodes = refl; shapes = shapes-are k edges paths shapes targets; targets-are = refl }
+
+-- the targets of a given case, with values for its pairs
+pub targets-given : {k : Counts} {edges paths shapes targets v : List ℕ} → Given k edges paths shapes targets → k .shapes * k .nodes ≤ length v → Targets k targets v
+targets-given {k} {edges} {paths} {shapes} {targets} g h =
+    record {
+      case = caseIn k edges paths shapes targets;
+      targets-of = targets-of-given g;
+      target-room = omega (arith, g .room .target-room, targets-bound g);
+      value-room = h;
+    }
 
 -- ---- Preparing
 
@@ -91,3 +124,13 @@ module _ {k : Counts} {edges paths alive done t : List ℕ} (p : Prepare k edges
           filler-room = rw (paths-counted k edges paths shapes targets) (omega (arith, fillers-bound g, f .long, p .filler-room));
         };
       }
+
+-- ---- From a proposal
+
+pub prepare-proposal : {k : Counts} {edges paths shapes v l alive done t : List ℕ} → Proposal k edges paths shapes v l → 2 ≤ length alive → 16 ≤ length done → 4096 ≤ length t → Prepare k edges paths alive done t
+prepare-proposal {k} {edges} {paths} {shapes} p a d t =
+    record { shapes = shapes; targets = p .targets; given = p .given; live-room = a; done-room = d; filler-room = t }
+
+pub tables-ready : {k : Counts} {edges paths shapes v l alive t : List ℕ} → Proposal k edges paths shapes v l → Ready k edges paths alive t → Tables k 2 shapes alive t
+tables-ready {k} {edges} {paths} {shapes} p r =
+    record { case = caseIn k edges paths shapes (p .targets); tables = r .ready shapes (p .targets) (p .given) }

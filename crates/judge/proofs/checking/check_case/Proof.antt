@@ -1,6 +1,6 @@
 -- `judge::checking::check_case` meets its contract. Assumes nothing.
-use Rattle.judge.proofs.Proposals.{targets-given, check-short, proposal, check-faulted, check-clear}
-use Rattle.judge.proofs.Preparing.{pairs-bound}
+use Rattle.judge.proofs.Proposals.{check-short, proposal, check-faulted, check-clear}
+use Rattle.judge.proofs.Preparing.{pairs-bound, targets-given}
 use Rattle.semantics.specs.Operations.{orElse}
 use mathlib.Core.Path.{_∙_, ap₂}
 use native.Mathlib.Omega.{arith}

@@ -1,5 +1,6 @@
 -- `judge::checking::fault_of` meets its contract. Assumes nothing.
-use Rattle.judge.proofs.Proposals.{prepare-proposal, tables-ready, check-room, faulted}
+use Rattle.judge.proofs.Preparing.{prepare-proposal, tables-ready}
+use Rattle.judge.proofs.Proposals.{check-room, faulted}
 use native.Mathlib.Omega.{arith}
 use borrow.Author.Needs.{needs}
 use Rattle.judge.proofs.checking.fault_of.Statement.{statement}

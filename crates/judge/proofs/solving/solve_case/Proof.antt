@@ -1,5 +1,6 @@
 -- `judge::solving::solve_case` meets its contract: the first table that is too short is refused, and otherwise the tables hold what solving leaves. Assumes nothing.
-use Rattle.judge.proofs.Pairing.{values-there, verdicts-there, proposal, fault-is, fault-left, long, targets-there, case-solved}
+use Rattle.judge.proofs.Preparing.{targets-given}
+use Rattle.judge.proofs.Pairing.{values-there, verdicts-there, proposal, fault-is, fault-left, long, case-solved}
 use Rattle.judge.proofs.Preparing.{pairs-bound}
 use native.Mathlib.Omega.{arith}
 use borrow.Author.Needs.{needs}
@@ -37,7 +38,7 @@ solve-pairs-requires : tie.Need-solve-pairs-requires
 solve-pairs-requires c κs = proposal (c .before .before .before .before .before .before .before .before .before .before .before .before .before .before .before .before .before .pre) (long (c .before .before .before .before .before .before .before .before .before .before .before .before .before .before .before .before .before .pre) _ _ (c .before .before .before .before .before .before .before .before .before .before .before .before .before .before .before .before .before .args .verdicts .now) (fault-is (c .before .before .before .before .before .before .before .before .before .before .before .before .before .before .before .before .before .pre) _ _ _ (c .before .before .before .before .before .before .before .before .too-short .ensures) (c .before .before .before .before .before .before .before .too-short2 .ensures) (c .before .before .before .before .before .before .too-short3 .ensures) (c .before .before .before .before .before .or-else .ensures) (c .before .before .before .before .or-else2 .ensures)) (c .before .before .if1 .left))
 
 write-verdicts-requires : tie.Need-write-verdicts-requires
-write-verdicts-requires c κs = (targets-there (c .before .before .before .before .before .before .before .before .before .before .before .before .before .before .before .before .before .before .before .before .before .before .before .before .pre) _ (values-there (c .before .before .before .before .before .before .before .before .before .before .before .before .before .before .before .before .before .before .before .before .before .before .before .before .pre) (c .before .before .before .before .before .before .solve-pairs .ensures)), long (c .before .before .before .before .before .before .before .before .before .before .before .before .before .before .before .before .before .before .before .before .before .before .before .before .pre) (c .before .before .before .before .before .before .before .before .before .before .before .before .before .before .before .before .before .before .before .before .before .before .before .before .args .values .now) (c .before .before .before .before .before .before .before .before .before .before .before .before .before .before .before .before .before .before .before .before .before .before .before .before .args .levels .now) (c .before .before .before .before .before .before .before .before .before .before .before .before .before .before .before .before .before .before .before .before .before .before .before .before .args .verdicts .now) (fault-is (c .before .before .before .before .before .before .before .before .before .before .before .before .before .before .before .before .before .before .before .before .before .before .before .before .pre) _ _ _ (c .before .before .before .before .before .before .before .before .before .before .before .before .before .before .before .too-short .ensures) (c .before .before .before .before .before .before .before .before .before .before .before .before .before .before .too-short2 .ensures) (c .before .before .before .before .before .before .before .before .before .before .before .before .before .too-short3 .ensures) (c .before .before .before .before .before .before .before .before .before .before .before .before .or-else .ensures) (c .before .before .before .before .before .before .before .before .before .before .before .or-else2 .ensures)) (c .before .before .before .before .before .before .before .before .before .if1 .left) .verdict-room)
+write-verdicts-requires c κs = (targets-given (c .before .before .before .before .before .before .before .before .before .before .before .before .before .before .before .before .before .before .before .before .before .before .before .before .pre) (values-there (c .before .before .before .before .before .before .before .before .before .before .before .before .before .before .before .before .before .before .before .before .before .before .before .before .pre) (c .before .before .before .before .before .before .solve-pairs .ensures)), long (c .before .before .before .before .before .before .before .before .before .before .before .before .before .before .before .before .before .before .before .before .before .before .before .before .pre) (c .before .before .before .before .before .before .before .before .before .before .before .before .before .before .before .before .before .before .before .before .before .before .before .before .args .values .now) (c .before .before .before .before .before .before .before .before .before .before .before .before .before .before .before .before .before .before .before .before .before .before .before .before .args .levels .now) (c .before .before .before .before .before .before .before .before .before .before .before .before .before .before .before .before .before .before .before .before .before .before .before .before .args .verdicts .now) (fault-is (c .before .before .before .before .before .before .before .before .before .before .before .before .before .before .before .before .before .before .before .before .before .before .before .before .pre) _ _ _ (c .before .before .before .before .before .before .before .before .before .before .before .before .before .before .before .too-short .ensures) (c .before .before .before .before .before .before .before .before .before .before .before .before .before .before .too-short2 .ensures) (c .before .before .before .before .before .before .before .before .before .before .before .before .before .too-short3 .ensures) (c .before .before .before .before .before .before .before .before .before .before .before .before .or-else .ensures) (c .before .before .before .before .before .before .before .before .before .before .before .or-else2 .ensures)) (c .before .before .before .before .before .before .before .before .before .if1 .left) .verdict-room)
 
 tally-of-requires : tie.Need-tally-of-requires
 tally-of-requires c κs = values-there (c .before .before .before .before .before .before .before .before .before .before .before .before .before .before .before .before .before .before .before .before .before .before .before .before .before .before .before .before .pre) (c .before .before .before .before .before .before .before .before .before .before .solve-pairs .ensures)

@@ -1,6 +1,7 @@
 -- `judge::solving::solve_pairs` meets its contract: the tables that `prepare` fills are those of the case, so the sets, values and levels written are its solved ones. Assumes nothing.
 use mathlib.Core.Path.{refl}
-use Rattle.judge.proofs.Pairing.{sets-bound, tables, pairs-solved}
+use Rattle.judge.proofs.Preparing.{tables-ready}
+use Rattle.judge.proofs.Pairing.{sets-bound, pairs-solved}
 use Rattle.judge.proofs.Preparing.{nodes-bound}
 use borrow.Author.Needs.{needs}
 use Rattle.judge.proofs.solving.solve_pairs.Statement.{statement}
@@ -31,7 +32,7 @@ slice-aggregate-solve-sets-4 : tie.Need-slice-aggregate-solve-sets-4
 slice-aggregate-solve-sets-4 c = search needs
 
 solve-sets-requires : tie.Need-solve-sets-requires
-solve-sets-requires c κs = (tables (c .before .before .before .before .before .before .before .before .before .before .before .before .before .before .before .before .pre) (c .before .before .before .before .before .before .before .prepare .ensures), (sets-bound (c .before .before .before .before .before .before .before .before .before .before .before .before .before .before .before .before .pre .given), refl))
+solve-sets-requires c κs = (tables-ready (c .before .before .before .before .before .before .before .before .before .before .before .before .before .before .before .before .pre) (c .before .before .before .before .before .before .before .prepare .ensures), (sets-bound (c .before .before .before .before .before .before .before .before .before .before .before .before .before .before .before .before .pre .given), refl))
 
 slice-aggregate-write-values : tie.Need-slice-aggregate-write-values
 slice-aggregate-write-values c = search needs
@@ -61,7 +62,7 @@ slice-aggregate-write-levels-6 : tie.Need-slice-aggregate-write-levels-6
 slice-aggregate-write-levels-6 c = search needs
 
 write-levels-requires : tie.Need-write-levels-requires
-write-levels-requires c κs = (tables (c .before .before .before .before .before .before .before .before .before .before .before .before .before .before .before .before .before .before .before .before .before .before .before .before .before .before .before .before .before .before .before .before .pre) (c .before .before .before .before .before .before .before .before .before .before .before .before .before .before .before .before .before .before .before .before .before .before .before .prepare .ensures), record { lower-room = search (sets-bound (c .before .before .before .before .before .before .before .before .before .before .before .before .before .before .before .before .before .before .before .before .before .before .before .before .before .before .before .before .before .before .before .before .pre .given), needs); upper-room = search (sets-bound (c .before .before .before .before .before .before .before .before .before .before .before .before .before .before .before .before .before .before .before .before .before .before .before .before .before .before .before .before .before .before .before .before .pre .given), needs); y-room = sets-bound (c .before .before .before .before .before .before .before .before .before .before .before .before .before .before .before .before .before .before .before .before .before .before .before .before .before .before .before .before .before .before .before .before .pre .given); alike = refl; level-room = c .before .before .before .before .before .before .before .before .before .before .before .before .before .before .before .before .before .before .before .before .before .before .before .before .before .before .before .before .before .before .before .before .pre .level-room })
+write-levels-requires c κs = (tables-ready (c .before .before .before .before .before .before .before .before .before .before .before .before .before .before .before .before .before .before .before .before .before .before .before .before .before .before .before .before .before .before .before .before .pre) (c .before .before .before .before .before .before .before .before .before .before .before .before .before .before .before .before .before .before .before .before .before .before .before .prepare .ensures), record { lower-room = search (sets-bound (c .before .before .before .before .before .before .before .before .before .before .before .before .before .before .before .before .before .before .before .before .before .before .before .before .before .before .before .before .before .before .before .before .pre .given), needs); upper-room = search (sets-bound (c .before .before .before .before .before .before .before .before .before .before .before .before .before .before .before .before .before .before .before .before .before .before .before .before .before .before .before .before .before .before .before .before .pre .given), needs); y-room = sets-bound (c .before .before .before .before .before .before .before .before .before .before .before .before .before .before .before .before .before .before .before .before .before .before .before .before .before .before .before .before .before .before .before .before .pre .given); alike = refl; level-room = c .before .before .before .before .before .before .before .before .before .before .before .before .before .before .before .before .before .before .before .before .before .before .before .before .before .before .before .before .before .before .before .before .pre .level-room })
 
 same-length : tie.Need-same-length
 same-length c = search needs
