@@ -1,7 +1,7 @@
 /* The cabinet judge: reads a case, solves it, checks proposals and ranks shapes by denial.
  *
  * Link with libjudge.a, which `rt staticlib judge` writes to target/staticlib/ (x86-64 Linux). The library keeps no state, allocates
- * nothing and calls nothing: any number of threads may call it at once, each on its own tables. A call uses about 100 KiB of stack.
+ * nothing and calls nothing: any number of threads may call it at once, each on its own tables. A call needs less than 96 KiB of stack.
  *
  * Every slice is a pointer and a length in bytes. A length of 0 needs no valid pointer but a non-null, suitably aligned one: pass the
  * address of any byte. Slices of one call must not overlap where one of them is written. The library reads and writes nothing outside
