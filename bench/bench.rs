@@ -30,12 +30,14 @@ fn family(name: &str, n: usize, seed: u64) -> Vec<u8> {
         "denial chain" => denial_chain(n, 32),
         "both chains" => both_chains(n, 17, 15),
         "open chain" => open_chain(n, 15, 17),
+        "open beside denials" => open_beside_denials(n, 17, 15),
+        "open after denials" => open_after_denials(n, 17, 15),
         "dense, star" => dense_star(r, n),
         _ => deep_paths(r, n, &[0x13, 0x13, 0x14]),
     })
 }
 
-const FAMILIES: [&str; 7] = ["random", "positive chain", "denial chain", "both chains", "open chain", "dense, star", "deep paths"];
+const FAMILIES: [&str; 9] = ["random", "positive chain", "denial chain", "both chains", "open chain", "open beside denials", "open after denials", "dense, star", "deep paths"];
 
 // ---- The judge
 

@@ -356,6 +356,24 @@ pub fn both_chains(n: usize, positive: usize, denial: usize) -> Commands {
     with_targets(commands, n, positive + denial)
 }
 
+/// An open chain beside one of denials: the possible pairs of the open chain stay the same from round to round.
+pub fn open_beside_denials(n: usize, open: usize, denial: usize) -> Commands {
+    let mut commands = ring(n);
+    commands.extend([node_shape(0), vec![0x24, 1], vec![0x22, 0, 1]]);
+    commands.extend(walk_from(2, 3, open - 3, |_| false));
+    commands.extend(denial_shapes(open, denial));
+    with_targets(commands, n, open + denial)
+}
+
+/// The same, but the open chain may also start from the chain of denials: its possible pairs rest on something else from round to round.
+pub fn open_after_denials(n: usize, open: usize, denial: usize) -> Commands {
+    let mut commands = ring(n);
+    commands.extend([node_shape(0), vec![0x24, 1], vec![0x22, 0, 1], vec![0x22, open as u8, 1], vec![0x23, 2, 3]]);
+    commands.extend(walk_from(4, 5, open - 5, |_| false));
+    commands.extend(denial_shapes(open, denial));
+    with_targets(commands, n, open + denial)
+}
+
 /// Every node reaches nearly every other by a star; counts and alls range over all of them.
 pub fn dense_star(r: &mut Random, n: usize) -> Commands {
     let mut commands = vec![nodes(n)];

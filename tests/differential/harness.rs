@@ -385,6 +385,10 @@ fn battery(tally: &mut Tally, r: &mut Random) {
     for (n, positive, denial) in [(3, 3, 4), (8, 12, 18), (16, 15, 17), (20, 17, 15), (32, 15, 17)] {
         examine(tally, r, &bytes(&both_chains(n, positive, denial)), 6);
     }
+    for (n, open, denial) in [(3, 6, 4), (8, 12, 18), (16, 17, 15), (33, 15, 17)] {
+        examine(tally, r, &bytes(&open_beside_denials(n, open, denial)), 6);
+        examine(tally, r, &bytes(&open_after_denials(n, open + 1, denial - 1)), 6);
+    }
     for (n, positive, open) in [(1, 3, 4), (16, 15, 17), (63, 15, 16), (128, 15, 17)] {
         examine(tally, r, &bytes(&open_chain(n, positive, open)), 6);
     }
@@ -424,6 +428,8 @@ fn turn(tally: &mut Tally, r: &mut Random, number: usize) {
             3 => { let (n, p, d) = (r.range(1, 12), r.range(3, 16), r.range(3, 16)); both_chains(n, p, d) }
             4 => { let (n, p, d) = (r.range(1, 40), r.range(3, 16), r.range(4, 16)); open_chain(n, p, d) }
             5 => { let (n, s) = (r.range(1, 40), r.range(3, 32)); mixed_chain(n, s) }
+            6 => { let (n, o, d) = (r.range(1, 12), r.range(7, 16), r.range(3, 16)); open_beside_denials(n, o, d) }
+            7 => { let (n, o, d) = (r.range(1, 12), r.range(8, 16), r.range(3, 16)); open_after_denials(n, o, d) }
             _ => random_case(r, &size),
         };
         return examine(tally, r, &bytes(&commands), 6);

@@ -212,6 +212,8 @@ fn main() {
             cases.push(Asked::new(&mixed_chain(8, 11)));
             cases.push(Asked::new(&denial_chain(8, 10)));
             cases.push(Asked::new(&open_chain(7, 6, 7)));
+            cases.push(Asked::new(&open_beside_denials(6, 8, 6)));
+            cases.push(Asked::new(&open_after_denials(6, 9, 6)));
             well_founded(&cases);
             founded += cases.len();
         }

@@ -1,20 +1,21 @@
--- Bits of words: of and, or and a power of two, above a word's length; a word is its bits, and its ones are counted by them. Assumes nothing.
+-- Bits of words: of and, or, a difference and a power of two, above a word's length; a word is its bits, its ones are counted by them, and one
+-- of them is its lowest. Assumes nothing.
 use Prim.Native.Nat.{ℕ, zero, suc, _+_, _-_, _*_, _/_, _%_, _^_, _≤_, _<_}
-use native.Mathlib.Nat.{one-mul, zero-div, div-eq-of-lt, mod-eq-of-lt, mod-lt, mod-one, mul-mod-left, pow-suc, lt-of-lt-of-le}
+use native.Mathlib.Nat.{one-mul, zero-div, div-one, div-eq-of-lt, div-lt-iff-lt-mul, div-div-eq-div-mul, mod-eq-of-lt, mod-lt, mod-one, mul-mod-left, pow-suc, pow-succ', lt-of-lt-of-le, zero-lt-suc}
 use native.Mathlib.Numerals.{one-add}
 use native.Mathlib.Omega.{arith}
 use mathlib.Core.Path.{_≡_, refl, sym, ap, ap₂, _∙_}
 use mathlib.Core.Logic.{⊎-elim}
-use mathlib.Core.Bool.{true, false, cond, _&&_, _||_, or-comm}
+use mathlib.Core.Bool.{Bool, true, false, cond, not, _&&_, _||_, or-comm, or-false, and-true, and-false, false≢true}
 use mathlib.Core.List.{[], _∷_}
-use lib.Dec.{eqb}
-use lib.Bits.{bitAnd, bitOr, and-shr, and-mod, or-shr, or-mod}
+use lib.Dec.{eqb, ltb}
+use lib.Bits.{bitAnd, bitOr, bitXor, and-shr, and-mod, and-mask, and-le-l, or-shr, or-mod, xor-shr, xor-mod}
 use lib.Pow.{pow-lt, pow-mono, pow-pos, pow-add, shl-shr, mod-pow-add}
-use lib.Count.{ones, ones-cat}
-use borrow.Author.Tests.{eq-eqb, ne-eqb}
+use lib.Count.{ones, ones-cat, trailingZeros, under}
+use borrow.Author.Tests.{eqb-true, eqb-false, eq-eqb, ne-eqb, ltb-true, lt-ltb, le-ltb}
 use Rattle.fixpoint.specs.Lists.{from, upTo, count}
-use Rattle.fixpoint.proofs.Lists.{upTo-snoc, count-append, lt-cases}
-use Rattle.bitset.specs.Words.{bit, WithBit}
+use Rattle.fixpoint.proofs.Lists.{upTo-snoc, count-append, bool-cases, bool-ext, lt-cases}
+use Rattle.bitset.specs.Words.{bit, WithBit, WithBitIf, Without, WithoutBit, Lowest, FirstBits}
 
 -- a binary digit is 0 or 1
 digit-ind : (P : ℕ → Type 0) → P 0 → P 1 → (d : ℕ) → d < 2 → P d
@@ -47,7 +48,16 @@ digit-or d e h k =
     d
     h
 
--- The bits of and, or, 0 and a power of two, and those at or above a word's length
+digit-without : (d e : ℕ) → d < 2 → e < 2 → eqb (bitAnd d (bitXor d e)) 1 ≡ eqb d 1 && not (eqb e 1)
+digit-without d e h k =
+    digit-ind
+    (λ d. eqb (bitAnd d (bitXor d e)) 1 ≡ eqb d 1 && not (eqb e 1))
+    refl
+    (digit-ind (λ e. eqb (bitAnd 1 (bitXor 1 e)) 1 ≡ not (eqb e 1)) refl refl e k)
+    d
+    h
+
+-- The bits of and, or, a difference, 0 and a power of two, and those at or above a word's length
 module _ (a b j : ℕ) where
   pub bit-and : bit (bitAnd a b) j ≡ bit a j && bit b j
   unfolding bit
@@ -60,6 +70,15 @@ module _ (a b j : ℕ) where
   bit-or =
       ap (λ x. eqb x 1) (ap (λ x. x % 2) (or-shr a b j) ∙ or-mod (a / 2 ^ j) (b / 2 ^ j) 1)
       ∙ digit-or (a / 2 ^ j % 2) (b / 2 ^ j % 2) (omega arith) (omega arith)
+
+  pub bit-without : bit (bitAnd a (bitXor a b)) j ≡ bit a j && not (bit b j)
+  unfolding bit
+  bit-without =
+      ap (λ x. eqb x 1)
+      (ap (λ x. x % 2) (and-shr a (bitXor a b) j)
+      ∙ and-mod (a / 2 ^ j) (bitXor a b / 2 ^ j) 1
+      ∙ ap (λ x. bitAnd (a / 2 ^ j % 2) x) (ap (λ x. x % 2) (xor-shr a b j) ∙ xor-mod (a / 2 ^ j) (b / 2 ^ j) 1))
+      ∙ digit-without (a / 2 ^ j % 2) (b / 2 ^ j % 2) (omega arith) (omega arith)
 
 pub bit-zero : (j : ℕ) → bit 0 j ≡ false
 unfolding bit
@@ -91,15 +110,45 @@ bit-pow j i =
     (lt-cases j i))
     (lt-cases i j)
 
+-- a power of two, as the code shifts it
+pub shifted : (j : ℕ) → j < 64 → 1 * 2 ^ j % 2 ^ 64 ≡ 2 ^ j
+shifted j h = ap (λ y. y % 2 ^ 64) (one-mul (2 ^ j)) ∙ mod-eq-of-lt (pow-lt h)
+
 -- a word with one bit set, as the code sets it
 pub bit-set : (x j : ℕ) → j < 64 → WithBit x j (bitOr x (1 * 2 ^ j % 2 ^ 64))
 bit-set x j h = record {
   bits = λ i l.
-      ap (λ y. bit (bitOr x y) i) (ap (λ y. y % 2 ^ 64) (one-mul (2 ^ j)) ∙ mod-eq-of-lt (pow-lt h))
+      ap (λ y. bit (bitOr x y) i) (shifted j h)
       ∙ bit-or x (2 ^ j) i
       ∙ ap (λ b. bit x i || b) (bit-pow j i)
       ∙ or-comm (bit x i) (eqb i j);
 }
+
+pub bit-set-if : {x j y : ℕ} → WithBit x j y → WithBitIf x j true y
+bit-set-if {x} {j} u = record { bits = λ i l. u .bits i l ∙ ap (λ b. b || bit x i) (sym (and-true (eqb i j))) }
+
+pub bit-kept : (x j : ℕ) → WithBitIf x j false x
+bit-kept x j = record { bits = λ i l. ap (λ b. b || bit x i) (sym (and-false (eqb i j))) }
+
+-- Bits set one by one: those below s are as f says
+pub below-next : (q s : ℕ) → (q ≡ s → ⊥) → ltb q s ≡ ltb q (s + 1)
+below-next q s n =
+    bool-ext (ltb q s) (ltb q (s + 1))
+    (λ b. lt-ltb q (s + 1) (omega (arith, ltb-true q s b)))
+    (λ b. lt-ltb q s (omega (arith, ltb-true q (s + 1) b)))
+
+module _ (f : ℕ → Bool) where
+  pub set-none : (q : ℕ) → bit 0 q ≡ (ltb q 0 && f q)
+  set-none q = bit-zero q ∙ ap (λ b. b && f q) (sym (le-ltb q 0 (omega arith)))
+
+  pub set-more : {s x y : ℕ} → ((q : ℕ) → q < 64 → bit x q ≡ (ltb q s && f q)) → WithBitIf x s (f s) y → (q : ℕ) → q < 64 → bit y q ≡ (ltb q (s + 1) && f q)
+  set-more {s} u v q h =
+      v .bits q h
+      ∙ ap (λ b. (eqb q s && f s) || b) (u q h)
+      ∙ ⊎-elim
+      (λ e. rw (eqb-true q s e, eq-eqb s s refl, le-ltb s s (omega arith), lt-ltb s (s + 1) (omega arith)) (or-false (f s)))
+      (λ e. rw e (ap (λ b. b && f q) (below-next q s (eqb-false q s e))))
+      (bool-cases (eqb q s))
 
 -- One digit more of a number
 low-suc : (k x : ℕ) → x % 2 ^ suc k ≡ x / 2 ^ k % 2 * 2 ^ k + x % 2 ^ k
@@ -134,3 +183,57 @@ low-ones (suc k) x =
 
 pub ones-count : (k x : ℕ) → x < 2 ^ k → ones x ≡ count (upTo k) (bit x)
 ones-count k x h = ap ones (sym (mod-eq-of-lt h)) ∙ low-ones k x
+
+-- The bits of one word outside another, as the code takes them
+pub bits-without : (x y : ℕ) → Without x y (bitAnd x (bitXor x y))
+bits-without x y =
+    let z = bitAnd x (bitXor x y) in
+    record {
+      bits = λ i h. bit-without x y i;
+      less = λ i h here there.
+          ⊎-elim
+          (λ l. l)
+          (λ l. let same : z ≡ x = omega (arith, and-le-l x (bitXor x y)) in
+          absurd (false≢true (sym (bit-without x y i ∙ ap₂ (λ a b. a && not b) here there) ∙ ap (λ n. bit n i) same ∙ here)))
+          (lt-cases z x);
+    }
+
+pub bit-left-out : {x j one y : ℕ} → j < 64 → WithBit 0 j one → Without x one y → WithoutBit x j y
+bit-left-out {x} {j} {one} l is-one out =
+    let only : (i : ℕ) → i < 64 → bit one i ≡ eqb i j = λ i h. is-one .bits i h ∙ ap (λ b. eqb i j || b) (bit-zero i) ∙ or-false (eqb i j) in
+    record {
+      bits = λ i h. out .bits i h ∙ ap (λ b. bit x i && not b) (only i h);
+      less = λ e. out .less j l e (only j l ∙ eq-eqb j j refl);
+    }
+
+-- The lowest bit
+tz-bit : (k n : ℕ) → 0 < n → n < 2 ^ k → (trailingZeros k n < k) × (bit n (trailingZeros k n) ≡ true)
+unfolding trailingZeros bit
+tz-bit zero n h l = absurd (omega arith)
+tz-bit (suc k) n h l =
+    go (n % 2) refl (λ e. tz-bit k (n / 2) (omega arith) (div-lt-iff-lt-mul (zero-lt-suc 1) .1 (rw (pow-suc 2 k) at l)))
+  where
+    go : (d : ℕ) → n % 2 ≡ d → (n % 2 ≡ 0 → (trailingZeros k (n / 2) < k) × (bit (n / 2) (trailingZeros k (n / 2)) ≡ true))
+        → (under d (trailingZeros k (n / 2)) < suc k) × (bit n (under d (trailingZeros k (n / 2))) ≡ true)
+    go zero e f =
+        let t = trailingZeros k (n / 2) in
+        (omega (arith, f e .0), ap (λ x. eqb (x % 2) 1) (ap (λ x. n / x) (pow-succ' 2 t) ∙ sym (div-div-eq-div-mul n 2 (2 ^ t))) ∙ f e .1)
+    go (suc d) e f =
+        let odd : n % 2 ≡ 1 = omega arith in
+        (omega arith, ap (λ x. eqb (x % 2) 1) (div-one n) ∙ ap (λ x. eqb x 1) odd)
+
+pub lowest : (x : ℕ) → 0 < x → x < 2 ^ 64 → Lowest x (trailingZeros 64 x)
+lowest x h l = let t = tz-bit 64 x h l in record { below = t .0; there = t .1 }
+
+-- The bits below n
+pub bit-ones : (n j : ℕ) → bit (2 ^ n - 1) j ≡ ltb j n
+bit-ones n j =
+    sym (bit-and (2 ^ j) (2 ^ n - 1) j ∙ ap (λ b. b && bit (2 ^ n - 1) j) (pow-same j))
+    ∙ ap (λ x. bit x j) (and-mask (2 ^ j) n)
+    ∙ ⊎-elim
+    (λ h. ap (λ x. bit x j) (mod-eq-of-lt (pow-lt h)) ∙ pow-same j ∙ sym (lt-ltb j n h))
+    (λ h. bit-high n (2 ^ j % 2 ^ n) j (mod-lt (2 ^ j) (pow-pos n)) h ∙ sym (le-ltb j n h))
+    (lt-cases j n)
+
+pub first-bits : (n : ℕ) → n < 64 → FirstBits n (1 * 2 ^ n % 2 ^ 64 - 1)
+first-bits n h = record { bits = λ i l. ap (λ x. bit (x - 1) i) (shifted n h) ∙ bit-ones n i }

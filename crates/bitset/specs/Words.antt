@@ -1,10 +1,10 @@
 -- Bits of words, membership in the rows of a table of w words a row, and what the functions on rows leave. Assumes nothing.
 use Prim.Native.Nat.{ℕ, _+_, _*_, _/_, _%_, _^_, _<_, _≤_}
 use mathlib.Core.Path.{_≡_}
-use mathlib.Core.Bool.{Bool, true, false, _&&_, _||_}
+use mathlib.Core.Bool.{Bool, true, false, not, _&&_, _||_}
 use mathlib.Core.List.{List}
 use lib.ListN.{length, getD}
-use lib.Dec.{eqb}
+use lib.Dec.{eqb, ltb}
 
 -- bit j of a word
 unfoldable pub bit : ℕ → ℕ → Bool
@@ -21,6 +21,29 @@ pub record Row (t : List ℕ) (w r : ℕ) : Type 0 where
 -- a word with bit j set
 pub record WithBit (x j y : ℕ) : Type 0 where
   pub bits : (i : ℕ) → i < 64 → bit y i ≡ (eqb i j || bit x i)
+
+-- a word with bit j set if `there`
+pub record WithBitIf (x j : ℕ) (there : Bool) (y : ℕ) : Type 0 where
+  pub bits : (i : ℕ) → i < 64 → bit y i ≡ ((eqb i j && there) || bit x i)
+
+-- the bits of x outside y; fewer where y has one of them
+pub record Without (x y z : ℕ) : Type 0 where
+  pub bits : (i : ℕ) → i < 64 → bit z i ≡ (bit x i && not (bit y i))
+  pub less : (i : ℕ) → i < 64 → bit x i ≡ true → bit y i ≡ true → z < x
+
+-- a word without bit j; less if it had it
+pub record WithoutBit (x j y : ℕ) : Type 0 where
+  pub bits : (i : ℕ) → i < 64 → bit y i ≡ (bit x i && not (eqb i j))
+  pub less : bit x j ≡ true → y < x
+
+-- a bit of a word; that it is the lowest doesn't matter
+pub record Lowest (x j : ℕ) : Type 0 where
+  pub below : j < 64
+  pub there : bit x j ≡ true
+
+-- the bits below n
+pub record FirstBits (n x : ℕ) : Type 0 where
+  pub bits : (i : ℕ) → i < 64 → bit x i ≡ ltb i n
 
 -- b was put into row r; every other member is as it was
 pub record Inserted (t : List ℕ) (w r b : ℕ) (t′ : List ℕ) : Type 0 where

@@ -5,25 +5,25 @@ use native.Mathlib.Nat.{mul-zero, mod-lt, div-lt-iff-lt-mul}
 use native.Mathlib.Omega.{arith}
 use mathlib.Core.Path.{_≡_, refl, sym, ap, ap₂, _∙_}
 use mathlib.Core.Bool.{Bool, true, false, cond, _&&_, _||_}
-use mathlib.Core.List.{List, [], _∷_, map}
-use lib.ListN.{length, getD, length-map}
+use mathlib.Core.List.{List}
+use lib.ListN.{length, getD}
 use lib.Dec.{eqb, leb, ltb}
 use borrow.Author.Tests.{lt-ltb, le-ltb, leb-true, ne-eqb, eq-eqb}
 use Rattle.fixpoint.specs.Lists.{any, upTo}
-use Rattle.fixpoint.proofs.Lists.{bool-ext, length-upTo, getD-upTo, or-left}
+use Rattle.fixpoint.proofs.Lists.{bool-ext, or-left}
 use Rattle.bitset.specs.Words.{member, Row}
 use Rattle.cases.specs.Case.{Case, shapeRule, references}
 use Rattle.cases.specs.Format.{shapeRuleOf}
 use Rattle.cases.specs.Reading.{noRefusal, shapeLeastPositive}
-use Rattle.cases.specs.Tables.{rowIn, rows}
+use Rattle.cases.specs.Tables.{rowIn}
 use Rattle.cases.specs.declared.command.ShapeRule.{ShapeRule}
-use Rattle.cases.specs.declared.command.ShapeRule.the-variants.{Node}
 use Rattle.cases.specs.declared.faults.Counts.{Counts}
 use Rattle.cases.specs.declared.reading.Refusal.{Refusal}
 use Rattle.fillers.specs.Fillers.{LiveIn}
 use Rattle.rules.specs.CaseTables.{TablesOf, Tables}
 use Rattle.rules.specs.Kernel.{RuleFits, RuleHolds, KernelOf}
 use Rattle.rules.proofs.Holding.{fits-at, node-fits}
+use Rattle.rules.proofs.Reading.{shape-count, pair-count, rule-of}
 use Rattle.rules.proofs.Sets.{tables-fit, kernel-of}
 use Rattle.semantics.specs.Paths.{live}
 use Rattle.semantics.specs.Values.{pairCount, pairOf, shapeOf, nodeOf, entryAt, ruleValue, pairValue, isValue, supportedAt}
@@ -96,50 +96,28 @@ module _ {r : ShapeRule} {a n w : ℕ} {t values levels valid possible : List �
 
 -- ---- The shapes of a case in tables
 
-getD-in : {A B : Type 0} (f : A → B) (l : List A) (i : ℕ) (d : B) (e : A) → i < length l → getD (map f l) i d ≡ f (getD l i e)
-getD-in f [] i d e h = absurd (omega arith)
-getD-in f (x ∷ l) zero d e h = refl
-getD-in f (x ∷ l) (suc i) d e h = getD-in f l i d e (omega arith)
-
 pub pair-parts : (s n p : ℕ) → p < s * n → (p / n < s) × (p % n < n)
 pair-parts s zero p h = absurd (omega (arith, mul-zero s))
 pair-parts s (suc n) p h = (div-lt-iff-lt-mul {k = suc n} (omega arith) .1 h, mod-lt p (omega arith))
 
 module _ {k : Counts} {w : ℕ} {shapes alive t : List ℕ} where
   module _ {c : Case} (g : TablesOf c k w shapes alive t) where
-    shape-count : length (c .shapes) ≡ k .shapes
-    unfolding rows
-    shape-count = ap length (g .shapes) ∙ length-map (rows shapes (k .shapes)) shapeRuleOf ∙ length-map (upTo (k .shapes)) (rowIn shapes) ∙ length-upTo (k .shapes)
-
-    pair-count : pairCount c ≡ k .shapes * k .nodes
-    unfolding pairCount
-    pair-count = ap₂ (λ x y. x * y) shape-count (g .nodes)
-
-    rule-there : (s : ℕ) → s < k .shapes → shapeRule c s ≡ shapeRuleOf (rowIn shapes s)
-    unfolding shapeRule rows
-    rule-there s h =
-        let b : s < length (upTo (k .shapes)) = omega (arith, length-upTo (k .shapes)) in
-        ap (λ l. getD l s (Node (record { 0 = c .nodes }))) (g .shapes)
-        ∙ getD-in shapeRuleOf (rows shapes (k .shapes)) s (Node (record { 0 = c .nodes })) (rowIn shapes 0) (omega (arith, length-map (upTo (k .shapes)) (rowIn shapes)))
-        ∙ ap shapeRuleOf (getD-in (rowIn shapes) (upTo (k .shapes)) s (rowIn shapes 0) 0 b)
-        ∙ ap (λ i. shapeRuleOf (rowIn shapes i)) (getD-upTo (k .shapes) s h)
-
     module _ (s : ℕ) (h : s < k .shapes) where
       shape-there : s < length (c .shapes)
-      shape-there = rw shape-count h
+      shape-there = rw (shape-count g) h
 
       references-there : (q : ℕ) → any (references (shapeRuleOf (rowIn shapes s))) (λ o. eqb o q) ≡ true → q < k .shapes
-      references-there q i = rw shape-count at (reference-below c (g .sound) s q shape-there (rw (rule-there s h) i))
+      references-there q i = rw (shape-count g) at (reference-below c (g .sound) s q shape-there (rw (rule-of g s h) i))
 
       kernel-there : KernelOf c (shapeRuleOf (rowIn shapes s)) (k .nodes) w t
       kernel-there = record {
         nodes = g .nodes;
         fillers = g .fillers;
-        paths = rw (rule-there s h) at (kernel-of c (g .sound) w t (g .fillers) s shape-there .paths);
+        paths = rw (rule-of g s h) at (kernel-of c (g .sound) w t (g .fillers) s shape-there .paths);
       }
 
       positive-there : shapeLeastPositive (shapeRuleOf (rowIn shapes s)) ≡ true
-      positive-there = rw (rule-there s h) at (least-positive-at c (g .sound) s shape-there)
+      positive-there = rw (rule-of g s h) at (least-positive-at c (g .sound) s shape-there)
 
   pub named-there : Tables k w shapes alive t → (s : ℕ) → s < k .shapes → Named (shapeRuleOf (rowIn shapes s)) (k .shapes)
   named-there g s h = record { below = references-there (g .tables) s h }
@@ -148,7 +126,7 @@ module _ {k : Counts} {w : ℕ} {shapes alive t : List ℕ} where
   rule-fits {s} {a} {y} {x} g h ha hy hx =
       let f = g .tables in
       fits-at
-      (rw (rule-there f s h, f .nodes) at
+      (rw (rule-of f s h, f .nodes) at
       (tables-fit (g .case) (f .sound) w t y x (f .wide) (f .narrow) (f .filler-room) (rw (shape-count f) hy) (rw (shape-count f) hx) s (shape-there f s h)))
       ha
 
@@ -245,9 +223,9 @@ module _ {k : Counts} {w : ℕ} {shapes alive t values levels valid possible low
     parts : (p / k .nodes < k .shapes) × (p % k .nodes < k .nodes)
     parts = pair-parts (k .shapes) (k .nodes) p h
 
-    rule-of : shapeRule c (shapeOf c p) ≡ shapeRuleOf (rowIn shapes (p / k .nodes))
+    pair-rule : shapeRule c (shapeOf c p) ≡ shapeRuleOf (rowIn shapes (p / k .nodes))
     unfolding shapeOf
-    rule-of = ap (λ n. shapeRule c (p / n)) (g .nodes) ∙ rule-there g (p / k .nodes) (parts .0)
+    pair-rule = ap (λ n. shapeRule c (p / n)) (g .nodes) ∙ rule-of g (p / k .nodes) (parts .0)
 
     node-of : nodeOf c p ≡ p % k .nodes
     unfolding nodeOf
@@ -261,7 +239,7 @@ module _ {k : Counts} {w : ℕ} {shapes alive t values levels valid possible low
 
     pair-value : pairValue c values p ≡ x
     unfolding pairValue
-    pair-value = ap₂ (λ r a. cond (live c a) (ruleValue c (entryAt c values) r a) 0) rule-of node-of ∙ rule-value
+    pair-value = ap₂ (λ r a. cond (live c a) (ruleValue c (entryAt c values) r a) 0) pair-rule node-of ∙ rule-value
 
     supported-pair : getD values p 0 ≡ x → supportedAt c values p ≡ true
     unfolding supportedAt
@@ -288,7 +266,7 @@ module _ {k : Counts} {w : ℕ} {shapes alive t values levels valid possible low
         let L : List ℕ = levelsIn (pairCount c) levels in
         let b = parts g in
         ap (λ z. z || ltb (pairSupport c values L p) (getD L p 0)) (ne-eqb v 0 n)
-        ∙ ap₂ ltb (ap₂ (λ r a. ruleSupport c (entryAt c values) (entryAt c L) v r a) (rule-of g) (node-of g)) (level-of ready g p (rw (pair-count g) h))
+        ∙ ap₂ ltb (ap₂ (λ r a. ruleSupport c (entryAt c values) (entryAt c L) v r a) (pair-rule g) (node-of g)) (level-of ready g p (rw (pair-count g) h))
         ∙ sym (support-by-sets ready g (p / k .nodes) (p % k .nodes) (b .0) (b .1) v (levelAt levels p) (omega arith) (ready .valued p h) (live-value (live c (p % k .nodes)) (ruleValue c (entryAt c values) (shapeRuleOf (rowIn shapes (p / k .nodes))) (p % k .nodes)) v (rule-value g ∙ sym e) n))
         ∙ sym (found .right c (kernel-there g (p / k .nodes) (b .0)))
 

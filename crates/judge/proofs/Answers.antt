@@ -15,7 +15,6 @@ use Rattle.cases.specs.declared.reading.Parsed.{Parsed}
 use Rattle.cases.specs.declared.reading.Refusal.{Refusal}
 use Rattle.cases.proofs.Sound.{outcome-sound}
 use Rattle.semantics.specs.declared.answers.Solution.{Solution}
-use Rattle.semantics.specs.declared.answers.Checked.{Checked}
 use Rattle.semantics.specs.declared.answers.Ranked.{Ranked}
 use Rattle.semantics.specs.Operations.{orElse, refuseUnless, counted, written, caseOf, solution, solveFault, solveRefusal, solveAnswer, solveValues, solveLevels, solveVerdicts, checked, checkFault, checkRefusal, checkAnswer, ranked, rankFault, rankRefusal, rankAnswer, rankStrata}
 use Rattle.judge.specs.Given.{Given, SolvedAs, CaseSolved, RankedAs}

@@ -3,23 +3,21 @@ use Prim.Native.Nat.{ℕ, _≤_}
 use native.Mathlib.Omega.{arith}
 use mathlib.Core.Path.{_≡_, refl, sym, ap, _∙_}
 use mathlib.Core.Logic.{⊎-elim}
-use mathlib.Core.Bool.{Bool, true, not}
 use mathlib.Core.List.{List, _++_}
 use lib.ListN.{length, drop}
 use lib.Dec.{eqb, leb}
-use borrow.Author.Tests.{leb-true, eq-eqb, ne-eqb, eqb-true, eqb-false}
-use Rattle.fixpoint.specs.Lists.{upTo}
-use Rattle.fixpoint.proofs.Lists.{bool-cases, length-upTo}
+use borrow.Author.Tests.{leb-true, eqb-true, eqb-false}
+use Rattle.fixpoint.proofs.Lists.{bool-cases}
 use Rattle.cases.specs.Tables.{caseIn}
 use Rattle.cases.specs.declared.faults.Counts.{Counts}
 use Rattle.cases.specs.declared.reading.Refusal.{Refusal}
-use Rattle.semantics.specs.declared.answers.Ranked.{Ranked}
-use Rattle.semantics.specs.Denial.{ownDenial, stratum, strata}
-use Rattle.semantics.specs.Operations.{orElse, firstOf, refuseUnless, tooShort, counted, written, denialFault, rankFault, strataCount, ranked}
+use Rattle.semantics.specs.Denial.{stratum, strata}
+use Rattle.semantics.specs.Operations.{orElse, refuseUnless, tooShort, counted, written, denialFault, rankFault, strataCount, ranked}
 use Rattle.semantics.proofs.Levels.{length-numbers}
-use Rattle.strata.specs.Ranks.{ShapesOf, RankRoom, Ranking}
+use Rattle.references.specs.References.{ShapesOf}
+use Rattle.strata.specs.Ranks.{RankRoom, Ranking}
 use Rattle.strata.specs.declared.ranks.Ranks.{Ranks}
-use Rattle.judge.specs.Given.{Given, ShapesGiven, RankedAs, RankedFor}
+use Rattle.judge.specs.Given.{Given, ShapesGiven, RankedFor}
 use Rattle.judge.specs.Refused.{refusedRanked}
 use Rattle.judge.proofs.Answers.{orElse-first, orElse-second, unless-none, ranked-refused, written-refused, written-all}
 use Rattle.judge.proofs.Preparing.{shapes-bound, shapes-are}

@@ -3,7 +3,7 @@
 use Prim.Native.Nat.{ℕ, _*_, _≤_}
 use native.Mathlib.Nat.{mul-le-mul-right}
 use native.Mathlib.Omega.{arith}
-use mathlib.Core.Path.{_≡_, refl, sym, ap, _∙_}
+use mathlib.Core.Path.{_≡_, refl, ap, _∙_}
 use mathlib.Core.Bool.{Bool, true, and-eq-true-iff}
 use mathlib.Core.List.{List, [], _∷_, _++_, map}
 use lib.ListN.{length, getD, take, drop, length-map, length-append, List·getD-append}
@@ -32,7 +32,8 @@ use Rattle.solver.specs.Rounding.{Solved}
 use Rattle.solver.specs.Rounding.{SolvedAs as SetsSolved}
 use Rattle.levels.specs.Steps.{LevelsWritten}
 use Rattle.levels.specs.Writing.{ValuesWritten, VerdictsWritten}
-use Rattle.levels.proofs.Marking.{length-bytes, shapes-are}
+use Rattle.levels.proofs.Marking.{length-bytes}
+use Rattle.rules.proofs.Reading.{shape-count}
 use Rattle.judge.specs.Given.{Given, Ready, Proposal, PairsSolved, CaseSolved}
 use Rattle.judge.specs.Refused.{refusedSolution}
 use Rattle.judge.proofs.Answers.{orElse-none, unless-none, solution-refused, written-refused}
@@ -51,7 +52,7 @@ rests c = solved-stable (pairCount c) (nextSet c) (rule-system c)
 module _ {c : Case} {k : Counts} {shapes alive t lower upper : List ℕ} {r : ℕ} (to : TablesOf c k 2 shapes alive t) (s : SetsSolved c 2 lower upper r) where
   values-solved : {values values′ : List ℕ} → ValuesWritten k 2 lower upper values values′ → values′ ≡ solvedValues c ++ drop (pairCount c) values
   unfolding solvedValues
-  values-solved v = rw (s .valid, s .possible) at (v .right c (to .nodes) (shapes-are to))
+  values-solved v = rw (s .valid, s .possible) at (v .right c (to .nodes) (shape-count to))
 
   levels-solved : {levels levels′ : List ℕ} → LevelsWritten k 2 shapes alive t lower upper levels levels′ → levels′ ≡ levelBytes (solvedLevels c) ++ drop (2 * pairCount c) levels
   unfolding solvedLevels

@@ -1,3 +1,4 @@
--- What the kernel answers, and the tables that it works on.
+-- What the kernel answers, the tables that it works on, and shapes at rest.
 pub mod Kernel
 pub mod CaseTables
+pub mod Resting

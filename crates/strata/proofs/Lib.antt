@@ -1,4 +1,3 @@
--- The laws of the shapes in a table, of the rows that ranking marks and of the bytes that it writes; and the proofs of the functions.
-pub mod Shapes
+-- The laws of the rows that ranking marks and of the bytes that it writes; and the proofs of the functions.
 pub mod Marking
 pub mod Writing

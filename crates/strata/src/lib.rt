@@ -2,4 +2,3 @@
 pub mod bytes;
 pub mod denial;
 pub mod ranks;
-pub mod references;
