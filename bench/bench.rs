@@ -10,7 +10,11 @@ mod interface;
 #[allow(dead_code)]
 #[path = "../tests/differential/reference.rs"]
 mod reference;
+#[allow(dead_code)]
+#[path = "../tests/solver/facts.rs"]
+mod facts;
 
+use facts::shape_facts;
 use generator::*;
 use interface::*;
 use reference::{Case, Shape};
@@ -192,19 +196,7 @@ fn prolog(case: &Case) -> String {
             }
         }
     }
-    for (s, shape) in case.shapes.iter().enumerate() {
-        let term = match shape {
-            Shape::Top => "top".to_string(),
-            Shape::Node(a) => format!("node({a})"),
-            Shape::And(t, u) => format!("and({t},{u})"),
-            Shape::Or(t, u) => format!("or({t},{u})"),
-            Shape::Not(t) => format!("not({t})"),
-            Shape::Same(p, q) => format!("same({p},{q})"),
-            Shape::All(p, t) => format!("all({p},{t})"),
-            Shape::AtLeast(n, p, t) => format!("least({n},{p},{t})"),
-        };
-        facts += &format!("shape(0,{s},{term}).\n");
-    }
+    facts += &shape_facts(0, case);
     format!("{text}\n{facts}:- initialization((answers, halt)).\n")
 }
 

@@ -19,6 +19,11 @@ fn common(k: usize, case: &Case) -> String {
         };
         text += &format!("path({k},{i},{term}).\n");
     }
+    text + &shape_facts(k, case)
+}
+
+pub fn shape_facts(k: usize, case: &Case) -> String {
+    let mut text = String::new();
     for (s, shape) in case.shapes.iter().enumerate() {
         let term = match shape {
             Shape::Top => "top".to_string(),

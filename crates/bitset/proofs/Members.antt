@@ -58,6 +58,13 @@ module _ (w q r a b : ℕ) (h : a < w) (l : b < w) (e : q * w + a ≡ r * w + b)
 pub rows-apart : (w q r : ℕ) → q < r → q * w + w ≤ r * w
 rows-apart w q r h = le-trans (le-of-eq (sym (suc-mul q w))) (mul-le-mul-right w h)
 
+pub other-row : (w q r a : ℕ) → a < w → (q ≡ r → ⊥) → (q * w + a < r * w) ⊎ (r * w + w ≤ q * w + a)
+other-row w q r a h n =
+    ⊎-elim
+    (λ l. inl (omega (arith, rows-apart w q r l)))
+    (λ l. inr (omega (arith, rows-apart w r q (omega arith))))
+    (lt-cases q r)
+
 -- a table of the same length has the same rows
 pub row-kept : {t t′ : List ℕ} {w r : ℕ} → Row t w r → length t′ ≡ length t → Row t′ w r
 row-kept f l = record { fits = omega (arith, f .fits) }

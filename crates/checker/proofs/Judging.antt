@@ -23,8 +23,8 @@ use Rattle.fillers.specs.Fillers.{LiveIn}
 use Rattle.rules.specs.CaseTables.{TablesOf, Tables}
 use Rattle.rules.specs.Kernel.{RuleFits, RuleHolds, KernelOf}
 use Rattle.rules.proofs.Holding.{fits-at, node-fits}
-use Rattle.rules.proofs.Reading.{shape-count, pair-count, rule-of}
-use Rattle.rules.proofs.Sets.{tables-fit, kernel-of}
+use Rattle.rules.proofs.Reading.{shape-count, pair-count, rule-of, kernel-there}
+use Rattle.rules.proofs.Sets.{tables-fit}
 use Rattle.semantics.specs.Paths.{live}
 use Rattle.semantics.specs.Values.{pairCount, pairOf, shapeOf, nodeOf, entryAt, ruleValue, pairValue, isValue, supportedAt}
 use Rattle.semantics.specs.Levels.{ruleSupport, pairSupport, justifiedAt}
@@ -108,13 +108,6 @@ module _ {k : Counts} {w : ℕ} {shapes alive t : List ℕ} where
 
       references-there : (q : ℕ) → any (references (shapeRuleOf (rowIn shapes s))) (λ o. eqb o q) ≡ true → q < k .shapes
       references-there q i = rw (shape-count g) at (reference-below c (g .sound) s q shape-there (rw (rule-of g s h) i))
-
-      kernel-there : KernelOf c (shapeRuleOf (rowIn shapes s)) (k .nodes) w t
-      kernel-there = record {
-        nodes = g .nodes;
-        fillers = g .fillers;
-        paths = rw (rule-of g s h) at (kernel-of c (g .sound) w t (g .fillers) s shape-there .paths);
-      }
 
       positive-there : shapeLeastPositive (shapeRuleOf (rowIn shapes s)) ≡ true
       positive-there = rw (rule-of g s h) at (least-positive-at c (g .sound) s shape-there)
