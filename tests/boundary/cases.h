@@ -1,28 +1,20 @@
-/* The library's interface as a C program declares it, and the cases that both programs of this folder use. */
+/* The cases that both programs of this folder use, and what both do when an answer is wrong. */
 #include <stdint.h>
 #include <stdio.h>
 #include <stdlib.h>
 #include <string.h>
 
-struct judge_reading { size_t number, place, nodes, edges, paths, shapes, targets; };
-struct judge_solution { size_t number, place, rounds, valid, undetermined, sure, open, impossible; };
-struct judge_checked { size_t number, place, undetermined, valid; };
-struct judge_ranked { size_t number, place, strata; };
+#include "judge.h"
 
-size_t solve(const uint8_t *c, size_t cn, uint8_t *values, size_t vn, uint8_t *levels, size_t ln, uint8_t *verdicts, size_t dn);
-size_t check(const uint8_t *c, size_t cn, const uint8_t *values, size_t vn, const uint8_t *levels, size_t ln);
-struct judge_reading judge_read(const uint8_t *c, size_t cn);
-struct judge_solution judge_solve(const uint8_t *c, size_t cn, uint8_t *values, size_t vn, uint8_t *levels, size_t ln, uint8_t *verdicts, size_t dn);
-struct judge_checked judge_check(const uint8_t *c, size_t cn, const uint8_t *values, size_t vn, const uint8_t *levels, size_t ln);
-struct judge_ranked judge_rank(const uint8_t *c, size_t cn, uint8_t *strata, size_t sn);
+#define MOST_CASES 40
+#define MOST_BYTES 8192
 
-#define MOST 40
-static struct { char name[32]; uint8_t *bytes; size_t length; } cases[MOST];
+static struct { const char *name; uint8_t *bytes; size_t length; } cases[MOST_CASES];
 static size_t case_count;
 
 static void add(const char *name, const uint8_t *bytes, size_t length) {
-  if (case_count == MOST) abort();
-  snprintf(cases[case_count].name, sizeof cases[0].name, "%s", name);
+  if (case_count == MOST_CASES) abort();
+  cases[case_count].name = name;
   cases[case_count].bytes = malloc(length + 1);
   memcpy(cases[case_count].bytes, bytes, length);
   cases[case_count++].length = length;
@@ -34,70 +26,63 @@ static void add_hex(const char *name, const char *text) {
   unsigned byte;
   int used;
   while (sscanf(text, "%2x%n", &byte, &used) == 1) {
-    bytes[length++] = byte;
+    bytes[length++] = (uint8_t)byte;
     for (text += used; *text == ' ' || *text == ','; text++) {}
   }
   add(name, bytes, length);
 }
 
+/* ---- A case with every group at its limit */
+
 static uint64_t seed = 1;
+
 static unsigned below(unsigned n) {
   seed = seed * 6364136223846793005u + 1442695040888963407u;
   return (unsigned)(seed >> 33) % n;
 }
 
-/* A case with every group at its limit: 7,347 bytes where no path is a star and no shape is short, less here. */
-static size_t full(uint8_t *c, unsigned nots) {
-  size_t n = 0;
-  c[n++] = 0x01, c[n++] = 128, c[n++] = 0;
-  for (int i = 0; i < 1024; i++) {
-    c[n++] = 0x02, c[n++] = below(4);
-    c[n++] = below(128), c[n++] = 0, c[n++] = below(128), c[n++] = 0;
-  }
-  for (unsigned i = 0; i < 16; i++) {
-    unsigned kind = i < 2 ? 0x10 + i : 0x10 + below(5);
-    c[n++] = kind;
-    if (kind < 0x12) c[n++] = below(4);
-    else {
-      c[n++] = below(i);
-      if (kind < 0x14) c[n++] = below(i);
-    }
-  }
-  for (unsigned i = 0; i < 32; i++) {
-    unsigned kind = below(8) < nots ? 0x24 : 0x20 + below(8);
-    c[n++] = kind;
-    switch (kind) {
-      case 0x20: break;
-      case 0x21: c[n++] = below(128), c[n++] = 0; break;
-      case 0x24: c[n++] = below(32); break;
-      case 0x25: c[n++] = below(16), c[n++] = below(16); break;
-      case 0x26: c[n++] = below(16), c[n++] = below(32); break;
-      case 0x27: c[n++] = 1 + below(255) % (1 + below(30)), c[n++] = below(16), c[n++] = below(32); break;
-      default: c[n++] = below(32), c[n++] = below(32);
-    }
-  }
-  for (int i = 0; i < 256; i++) c[n++] = 0x30, c[n++] = below(32), c[n++] = below(128), c[n++] = 0;
-  c[n++] = 0xFF;
-  return n;
+static uint8_t full[MOST_BYTES];
+static size_t full_length;
+
+static void put(unsigned byte) { full[full_length++] = (uint8_t)byte; }
+
+static void put_node(unsigned node) { put(node), put(0); }
+
+static void put_path(unsigned kind, unsigned earlier) {
+  put(kind);
+  if (kind < 0x12) put(below(4));
+  else put(below(earlier));
+  if (kind == 0x12 || kind == 0x13) put(below(earlier));
 }
 
-/* leaves a case behind for tests/differential/run --replay */
-static void store(size_t i, const char *what) {
-  FILE *file = fopen("target/tests/boundary-failure.hex", "w");
-  if (file == NULL) return;
-  fprintf(file, "# %s: %s\ncase", cases[i].name, what);
-  for (size_t k = 0; k < cases[i].length; k++) fprintf(file, " %02X", cases[i].bytes[k]);
-  fprintf(file, "\n");
-  fclose(file);
-  printf("boundary: case '%s', stored in target/tests/boundary-failure.hex: %s\n", cases[i].name, what);
-  fflush(stdout);
+static void put_shape(unsigned kind) {
+  put(kind);
+  switch (kind) {
+    case 0x20: break;
+    case 0x21: put_node(below(128)); break;
+    case 0x24: put(below(32)); break;
+    case 0x25: put(below(16)), put(below(16)); break;
+    case 0x26: put(below(16)), put(below(32)); break;
+    case 0x27: put(1 + below(255) % (1 + below(30))), put(below(16)), put(below(32)); break;
+    default: put(below(32)), put(below(32));
+  }
 }
 
-static const char ring_case[] = "01 04 00, 02 00 01 00 00 00, 02 00 02 00 03 00, 02 00 03 00 02 00, 02 01 00 00 00 00, 10 00, 10 01, 20, 27 01 01 00, 27 01 00 03, 23 01 02, 24 03, 30 03 01 00, 30 03 02 00, FF";
+/* of eight shapes so many are nots, and some of the others */
+static void make_full(unsigned nots) {
+  full_length = 0;
+  put(0x01), put_node(128);
+  for (int i = 0; i < 1024; i++) put(0x02), put(below(4)), put_node(below(128)), put_node(below(128));
+  for (unsigned i = 0; i < 16; i++) put_path(i < 2 ? 0x10 + i : 0x10 + below(5), i);
+  for (int i = 0; i < 32; i++) put_shape(below(8) < nots ? 0x24 : 0x20 + below(8));
+  for (int i = 0; i < 256; i++) put(0x30), put(below(32)), put_node(below(128));
+  put(0xFF);
+}
+
+/* ---- All cases */
 
 static void make_cases(void) {
-  static uint8_t c[8192];
-  add_hex("ring", ring_case);
+  add_hex("ring", "01 04 00, 02 00 01 00 00 00, 02 00 02 00 03 00, 02 00 03 00 02 00, 02 01 00 00 00 00, 10 00, 10 01, 20, 27 01 01 00, 27 01 00 03, 23 01 02, 24 03, 30 03 01 00, 30 03 02 00, FF");
   add_hex("clash", "01 01 00, 02 00 00 00 00 00, 24 01, 24 00, FF");
   add_hex("not itself", "01 01 00, 02 00 00 00 00 00, 24 00, 30 00 00 00, FF");
   add_hex("or of itself", "01 01 00, 02 00 00 00 00 00, 23 00 00, FF");
@@ -107,17 +92,20 @@ static void make_cases(void) {
   add_hex("no nodes, a shape", "01 00 00, 20, FF");
   add_hex("no shapes", "01 80 00, 02 00 7F 00 00 00, FF");
   add_hex("strata", "01 02 00, 02 00 00 00 01 00, 10 00, 20, 24 00, 26 00 01, 24 02, 22 03 01, 30 04 00 00, FF");
-  for (unsigned nots = 0; nots < 4; nots++) add("full limits", c, full(c, nots));
-  size_t n = full(c, 1);
-  add("full, end missing", c, n - 1);
-  add("full, cut in an edge", c, 4000);
-  add("full, a target cut", c, n - 2);
-  c[n] = 0;
-  add("full, a byte behind", c, n + 1);
-  c[n - 4] = 32;
-  add("full, shape not there", c, n);
-  c[n - 2] = 1;
-  add("full, node not there", c, n);
+  for (unsigned nots = 0; nots < 4; nots++) {
+    make_full(nots);
+    add("full limits", full, full_length);
+  }
+  make_full(1);
+  add("full, end missing", full, full_length - 1);
+  add("full, cut in an edge", full, 4000);
+  add("full, a target cut", full, full_length - 2);
+  full[full_length] = 0;
+  add("full, a byte behind", full, full_length + 1);
+  full[full_length - 4] = 32;
+  add("full, shape not there", full, full_length);
+  full[full_length - 2] = 1;
+  add("full, node not there", full, full_length);
   add_hex("empty", "");
   add_hex("1", "00");
   add_hex("1 later", "01 00 00 28");
@@ -130,4 +118,32 @@ static void make_cases(void) {
   add_hex("7", "01 01 00 10 00 27 00 00 00");
   add_hex("8", "01 00 00 FF FF");
   add_hex("9", "01 00 00 24 01 FF");
+}
+
+/* ---- What is run, and what went wrong */
+
+static char stored[512];
+
+/* the one word: a number from 1 to most; anything else is refused, since a run of nothing shows nothing */
+static size_t one_number(int count, char **words, size_t most) {
+  snprintf(stored, sizeof stored, "%s-failure.hex", words[0]);
+  char *end = NULL;
+  unsigned long number = count == 2 && words[1][0] != '-' ? strtoul(words[1], &end, 10) : 0;
+  if (end == NULL || *end != '\0' || number < 1 || number > most) {
+    printf("boundary: %s takes one number from 1 to %zu\n", words[0], most);
+    exit(2);
+  }
+  return number;
+}
+
+/* leaves a case behind for tests/differential/run --replay */
+static void store(size_t i, const char *what) {
+  printf("boundary: case '%s', stored in %s: %s\n", cases[i].name, stored, what);
+  fflush(stdout);
+  FILE *file = fopen(stored, "w");
+  if (file == NULL) return;
+  fprintf(file, "# %s: %s\ncase", cases[i].name, what);
+  for (size_t k = 0; k < cases[i].length; k++) fprintf(file, " %02X", cases[i].bytes[k]);
+  fprintf(file, "\n");
+  fclose(file);
 }

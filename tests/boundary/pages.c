@@ -1,8 +1,12 @@
 /* Calls every function with each slice at the end, then at the start, of pages of its own, with pages that can't be touched on both sides. What a call may not write is read-only: the case, both tables of check, and every table of a call that is refused. */
-#include "cases.h"
+#define _GNU_SOURCE
 #include <signal.h>
 #include <sys/mman.h>
 #include <unistd.h>
+
+#include "judge.h"
+
+#include "cases.h"
 
 #define PAGE 4096
 
@@ -23,7 +27,8 @@ static struct area place(const uint8_t *bytes, size_t length, int at_end, int re
 
 static void drop(struct area a) { munmap(a.map, a.mapped); }
 
-static size_t current;
+/* the case at hand, and the calls on guarded pages so far */
+static size_t current, calls;
 
 static void fail(const char *what) {
   store(current, what);
@@ -49,25 +54,53 @@ static void number(const char *what, size_t got, size_t expected) {
   if (got != expected) fail(text);
 }
 
-static uint8_t filler[8192];
+static uint8_t filler[MOST_BYTES];
 
-/* solve with tables of these lengths, which refuses with the given number or, for 0, answers as expected */
-static void solve_at(int at_end, struct area c, size_t v, size_t l, size_t d, size_t refusal, const struct judge_solution *answer, const uint8_t *tables) {
-  for (int plain = 0; plain < 2; plain++) {
+/* ---- The same calls on plain memory */
+
+struct plain {
+  struct judge_reading read;
+  struct judge_solution solved;
+  struct judge_ranked ranked;
+  size_t pairs;
+  /* values, levels and verdicts one after another; the strata, or the filler that a refusal leaves */
+  uint8_t *tables, *strata;
+};
+
+/* fresh bytes of a table are set by nothing: a call that goes by them shows under valgrind */
+static struct plain on_plain_memory(const uint8_t *bytes, size_t length) {
+  struct plain p = { .read = judge_read(bytes, length) };
+  p.pairs = p.read.nodes * p.read.shapes;
+  p.tables = malloc(3 * p.pairs + p.read.targets + 1);
+  p.solved = judge_solve(bytes, length, p.tables, p.pairs, p.tables + p.pairs, 2 * p.pairs, p.tables + 3 * p.pairs, p.read.targets);
+  p.strata = malloc(p.read.shapes + 1);
+  p.ranked = judge_rank(bytes, length, p.strata, p.read.shapes);
+  if (p.ranked.number != 0) memset(p.strata, filler[0], p.read.shapes);
+  number("judge_solve", p.solved.number, p.read.number);
+  number("the sum of the verdicts", p.solved.sure + p.solved.open + p.solved.impossible, p.read.targets);
+  return p;
+}
+
+/* ---- Calls on guarded pages */
+
+/* solve with tables of these lengths, which refuses with the given number or, for 0, answers as on plain memory */
+static void solve_at(int at_end, struct area c, size_t v, size_t l, size_t d, size_t refusal, const struct plain *p) {
+  for (int desk = 0; desk < 2; desk++) {
     struct area vt = place(filler, v, at_end, refusal != 0), lt = place(filler, l, at_end, refusal != 0), dt = place(filler, d, at_end, refusal != 0);
-    if (plain) number("solve", solve(c.start, c.length, vt.start, v, lt.start, l, dt.start, d), refusal);
+    if (desk) number("solve", solve(c.start, c.length, vt.start, v, lt.start, l, dt.start, d), refusal);
     else {
       struct judge_solution got = judge_solve(c.start, c.length, vt.start, v, lt.start, l, dt.start, d);
       number("number of judge_solve", got.number, refusal);
-      if (refusal == 0) same("judge_solve", &got, answer, sizeof got);
+      if (refusal == 0) same("judge_solve", &got, &p->solved, sizeof got);
       else number("a count of a refusal", got.rounds + got.valid + got.undetermined + got.sure + got.open + got.impossible, 0);
     }
     if (refusal == 0) {
-      same("value table", vt.start, tables, v);
-      same("level table", lt.start, tables + v, l);
-      same("verdict table", dt.start, tables + v + l, d);
+      same("value table", vt.start, p->tables, v);
+      same("level table", lt.start, p->tables + v, l);
+      same("verdict table", dt.start, p->tables + v + l, d);
     }
     drop(vt), drop(lt), drop(dt);
+    calls++;
   }
 }
 
@@ -76,6 +109,7 @@ static void check_at(int at_end, struct area c, const uint8_t *values, size_t v,
   number("judge_check", judge_check(c.start, c.length, vt.start, v, lt.start, l).number, expected);
   number("check", check(c.start, c.length, vt.start, v, lt.start, l), expected);
   drop(vt), drop(lt);
+  calls += 2;
 }
 
 static void rank_at(int at_end, struct area c, size_t s, const struct judge_ranked *answer, const uint8_t *strata) {
@@ -84,58 +118,64 @@ static void rank_at(int at_end, struct area c, size_t s, const struct judge_rank
   same("judge_rank", &got, answer, sizeof got);
   same("strata table", st.start, strata, s);
   drop(st);
+  calls++;
 }
 
-int main(void) {
+/* each table one entry short, no tables at all, and a proposal that is none */
+static void short_tables_at(int at_end, struct area c, const struct plain *p) {
+  const uint8_t *values = p->tables, *levels = p->tables + p->pairs;
+  size_t v = p->pairs, l = 2 * p->pairs, d = p->read.targets;
+  if (v > 0) {
+    solve_at(at_end, c, v - 1, l, d, 10, p);
+    solve_at(at_end, c, v, l - 1, d, 11, p);
+    solve_at(at_end, c, 0, 0, 0, 10, p);
+    check_at(at_end, c, values, v - 1, levels, l, 10);
+    check_at(at_end, c, values, v, levels, l - 1, 11);
+    check_at(at_end, c, filler, v, levels, l, 13);
+  }
+  if (d > 0) solve_at(at_end, c, v, l, d - 1, 12, p);
+  if (p->read.shapes > 0) {
+    struct judge_ranked short_table = { 16, p->read.shapes, 0 };
+    rank_at(at_end, c, p->read.shapes - 1, &short_table, filler);
+  }
+}
+
+static void all_calls_at(int at_end, const uint8_t *bytes, size_t length, const struct plain *p) {
+  struct area c = place(bytes, length, at_end, 1);
+  struct judge_reading again = judge_read(c.start, length);
+  same("judge_read", &again, &p->read, sizeof again);
+  calls++;
+  int sound = p->read.number == 0;
+  solve_at(at_end, c, p->pairs, 2 * p->pairs, p->read.targets, p->read.number, p);
+  rank_at(at_end, c, p->read.shapes, &p->ranked, p->strata);
+  check_at(at_end, c, sound ? p->tables : filler, p->pairs, sound ? p->tables + p->pairs : filler, 2 * p->pairs, p->read.number);
+  if (sound) short_tables_at(at_end, c, p);
+  drop(c);
+}
+
+static void run(size_t i) {
+  current = i;
+  struct plain p = on_plain_memory(cases[i].bytes, cases[i].length);
+  if (i == 0) {
+    same("the ring's values", p.tables, "\2\2\2\2\2\0\0\0\0\2\0\0\2\2\0\0\0\0\2\2", 20);
+    same("the ring's verdicts", p.tables + 60, "\2\0", 2);
+  }
+  for (int at_end = 0; at_end < 2; at_end++) all_calls_at(at_end, cases[i].bytes, cases[i].length, &p);
+  free(p.tables), free(p.strata);
+}
+
+/* the word: every so manyth case, the first in any case */
+int main(int count, char **words) {
+  size_t step = one_number(count, words, 100), done = 0;
   make_cases();
   signal(SIGSEGV, on_fault);
   signal(SIGBUS, on_fault);
   memset(filler, 0xA5, sizeof filler);
-  size_t calls = 0;
-  for (size_t i = 0; i < case_count; i++) {
-    current = i;
-    const uint8_t *bytes = cases[i].bytes;
-    size_t length = cases[i].length;
-    struct judge_reading read = judge_read(bytes, length);
-    size_t pairs = read.nodes * read.shapes;
-    /* the same calls on plain memory, whose fresh bytes nothing has set: a call that goes by them shows under valgrind */
-    uint8_t *tables = malloc(3 * pairs + read.targets + 1), *strata = malloc(read.shapes + 1);
-    struct judge_solution solved = judge_solve(bytes, length, tables, pairs, tables + pairs, 2 * pairs, tables + 3 * pairs, read.targets);
-    struct judge_ranked ranked = judge_rank(bytes, length, strata, read.shapes);
-    number("judge_solve", solved.number, read.number);
-    number("pairs and verdicts", solved.sure + solved.open + solved.impossible, read.targets);
-    uint8_t *expected_strata = malloc(read.shapes + 1);
-    memset(expected_strata, 0xA5, read.shapes + 1);
-    if (ranked.number == 0) memcpy(expected_strata, strata, read.shapes);
-    if (i == 0) {
-      same("ring values", tables, "\2\2\2\2\2\0\0\0\0\2\0\0\2\2\0\0\0\0\2\2", 20);
-      same("ring verdicts", tables + 60, "\2\0", 2);
-    }
-    for (int at_end = 0; at_end < 2; at_end++) {
-      struct area c = place(bytes, length, at_end, 1);
-      struct judge_reading again = judge_read(c.start, length);
-      same("judge_read", &again, &read, sizeof read);
-      solve_at(at_end, c, pairs, 2 * pairs, read.targets, read.number, &solved, tables);
-      rank_at(at_end, c, read.shapes, &ranked, expected_strata);
-      check_at(at_end, c, read.number ? filler : tables, pairs, read.number ? filler : tables + pairs, 2 * pairs, read.number);
-      if (read.number == 0 && pairs > 0) {
-        solve_at(at_end, c, pairs - 1, 2 * pairs, read.targets, 10, &solved, tables);
-        solve_at(at_end, c, pairs, 2 * pairs - 1, read.targets, 11, &solved, tables);
-        solve_at(at_end, c, 0, 0, 0, 10, &solved, tables);
-        check_at(at_end, c, tables, pairs - 1, tables + pairs, 2 * pairs, 10);
-        check_at(at_end, c, tables, pairs, tables + pairs, 2 * pairs - 1, 11);
-        check_at(at_end, c, filler, pairs, tables + pairs, 2 * pairs, 13);
-      }
-      if (read.number == 0 && read.targets > 0) solve_at(at_end, c, pairs, 2 * pairs, read.targets - 1, 12, &solved, tables);
-      if (read.number == 0 && read.shapes > 0) {
-        struct judge_ranked short_table = { 16, read.shapes, 0 };
-        rank_at(at_end, c, read.shapes - 1, &short_table, filler);
-      }
-      drop(c);
-      calls++;
-    }
-    free(tables), free(strata), free(expected_strata);
+  for (size_t i = 0; i < case_count; i += step, done++) run(i);
+  if (calls < 12 * done) {
+    printf("boundary: only %zu calls on %zu cases\n", calls, done);
+    return 1;
   }
-  printf("boundary: %zu cases at both ends of their pages\n", calls / 2);
+  printf("%zu calls on %zu cases at both ends of their pages\n", calls, done);
   return 0;
 }

@@ -1,7 +1,11 @@
 /* Eight threads call all functions at once, each on copies and tables of its own; every answer and every byte has to be what one thread alone gets. */
-#include "cases.h"
+#define _GNU_SOURCE
 #include <pthread.h>
-#include <time.h>
+#include <stdatomic.h>
+
+#include "judge.h"
+
+#include "cases.h"
 
 #define THREADS 8
 
@@ -11,61 +15,75 @@ struct result {
   struct judge_checked checked, refused;
   struct judge_ranked ranked;
   size_t solve_number, check_number;
-  uint8_t values[4096], levels[8192], verdicts[256], strata[32], plain[4096];
+  uint8_t values[JUDGE_MOST_PAIRS], levels[JUDGE_MOST_LEVEL_BYTES], verdicts[JUDGE_MOST_TARGETS], strata[JUDGE_MOST_SHAPES];
+  uint8_t desk_values[JUDGE_MOST_PAIRS], desk_levels[JUDGE_MOST_LEVEL_BYTES], desk_verdicts[JUDGE_MOST_TARGETS];
 };
 
-static struct result alone[MOST];
-static double seconds;
+static struct result alone[MOST_CASES];
 
-static double now(void) {
-  struct timespec t;
-  clock_gettime(CLOCK_MONOTONIC, &t);
-  return (double)t.tv_sec + (double)t.tv_nsec / 1e9;
-}
-
-/* all functions on one case, tables cleared before; the levels are spoilt at the last pair for a check that may refuse */
+/* all functions on one case, tables cleared before; the second check is of levels that are all 0 */
 static void run(const uint8_t *c, size_t n, struct result *r) {
-  static const uint8_t spare[8192];
+  static const uint8_t zeros[JUDGE_MOST_LEVEL_BYTES];
   memset(r, 0, sizeof *r);
   r->read = judge_read(c, n);
   r->solved = judge_solve(c, n, r->values, sizeof r->values, r->levels, sizeof r->levels, r->verdicts, sizeof r->verdicts);
   r->checked = judge_check(c, n, r->values, sizeof r->values, r->levels, sizeof r->levels);
-  r->refused = judge_check(c, n, r->values, sizeof r->values, spare, sizeof spare);
+  r->refused = judge_check(c, n, r->values, sizeof r->values, zeros, sizeof zeros);
   r->ranked = judge_rank(c, n, r->strata, sizeof r->strata);
-  uint8_t levels[8192], verdicts[256];
-  r->solve_number = solve(c, n, r->plain, sizeof r->plain, levels, sizeof levels, verdicts, sizeof verdicts);
+  r->solve_number = solve(c, n, r->desk_values, sizeof r->desk_values, r->desk_levels, sizeof r->desk_levels, r->desk_verdicts, sizeof r->desk_verdicts);
   r->check_number = check(c, n, r->values, sizeof r->values, r->levels, sizeof r->levels);
 }
 
+struct worker { pthread_t thread; size_t first, done, beside; };
+
+static size_t turns;
+static pthread_barrier_t start;
+static atomic_size_t running;
+
+/* one case, after another; turns beside which another thread was at one are counted */
 static void *work(void *which) {
-  size_t at = (size_t)which, turns = 0;
-  uint8_t *copy = malloc(8192);
+  struct worker *w = which;
+  uint8_t *copy = malloc(MOST_BYTES);
   struct result *mine = malloc(sizeof *mine);
-  for (double end = now() + seconds; now() < end; turns++) {
-    size_t i = at++ % case_count;
+  pthread_barrier_wait(&start);
+  for (; w->done < turns; w->done++) {
+    size_t i = (w->first + w->done) % case_count;
     memcpy(copy, cases[i].bytes, cases[i].length);
+    atomic_fetch_add(&running, 1);
     run(copy, cases[i].length, mine);
+    if (atomic_fetch_sub(&running, 1) > 1) w->beside++;
     if (memcmp(mine, &alone[i], sizeof *mine) != 0) {
       store(i, "a thread got another answer than one thread alone");
       exit(1);
     }
   }
   free(copy), free(mine);
-  return (void *)turns;
+  return NULL;
 }
 
+static void fail(const char *what, size_t thread) {
+  printf("boundary: thread %zu %s\n", thread, what);
+  exit(1);
+}
+
+/* the word: how many turns each thread takes */
 int main(int count, char **words) {
-  seconds = count > 1 ? atof(words[1]) : 5;
+  turns = one_number(count, words, 1000000);
   make_cases();
   for (size_t i = 0; i < case_count; i++) run(cases[i].bytes, cases[i].length, &alone[i]);
-  pthread_t threads[THREADS];
-  size_t turns = 0;
-  for (size_t i = 0; i < THREADS; i++) pthread_create(&threads[i], NULL, work, (void *)(i * 5));
+  static struct worker workers[THREADS];
+  pthread_barrier_init(&start, NULL, THREADS);
   for (size_t i = 0; i < THREADS; i++) {
-    void *done;
-    pthread_join(threads[i], &done);
-    turns += (size_t)done;
+    workers[i].first = 5 * i;
+    if (pthread_create(&workers[i].thread, NULL, work, &workers[i]) != 0) fail("did not start", i);
   }
-  printf("boundary: %zu cases in %d threads at once\n", turns, THREADS);
+  size_t beside = 0;
+  for (size_t i = 0; i < THREADS; i++) {
+    if (pthread_join(workers[i].thread, NULL) != 0) fail("did not end", i);
+    if (workers[i].done != turns) fail("did not take its turns", i);
+    beside += workers[i].beside;
+  }
+  if (beside == 0) fail("and all others took their turns one after another", 0);
+  printf("%zu turns in each of %d threads, %zu in all while another was at one\n", turns, THREADS, beside);
   return 0;
 }

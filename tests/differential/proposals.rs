@@ -5,6 +5,7 @@ use crate::reference::{sets, Case, Solved};
 
 #[derive(Clone)]
 pub struct Proposal {
+    pub kind: &'static str,
     pub values: Vec<u8>,
     pub levels: Vec<usize>,
 }
@@ -95,67 +96,114 @@ pub fn another_supported(r: &mut Random, case: &Case) -> Vec<u8> {
     values
 }
 
+// ---- The kinds of proposals
+
+/// A change of the solved assignment and its levels, of a case with pairs.
+type Change = fn(&mut Random, &Case, &mut Proposal);
+
+/// What stands twice comes twice as often.
+const KINDS: [(&str, Change); 10] = [
+    ("levels of violated pairs", violated_levels),
+    ("levels spread", spread_levels),
+    ("levels about the support", levels_about_support),
+    ("levels about the support", levels_about_support),
+    ("values changed", changed_values),
+    ("another stable", as_another_stable),
+    ("another supported", as_another_supported),
+    ("random", at_random),
+    ("all the same", all_the_same),
+    ("bytes that are no values", no_values),
+];
+
+/// The kind of a proposal for a case that has nothing to propose.
+const NO_PAIRS: &str = "no pairs";
+
+/// Every kind by name, once.
+pub fn names() -> Vec<&'static str> {
+    let mut names: Vec<&str> = KINDS.iter().map(|(name, _)| *name).collect();
+    names.dedup();
+    names.push(NO_PAIRS);
+    names
+}
+
 /// One proposal of a random kind.
 pub fn proposal(r: &mut Random, case: &Case, solved: &Solved) -> Proposal {
-    let mut values = solved.values.clone();
-    let mut levels = solved.levels.clone();
-    if case.pairs() == 0 {
-        return Proposal { values, levels };
+    let mut proposal = Proposal { kind: NO_PAIRS, values: solved.values.clone(), levels: solved.levels.clone() };
+    if case.pairs() > 0 {
+        let (kind, change) = r.pick(&KINDS);
+        proposal.kind = kind;
+        change(r, case, &mut proposal);
     }
-    match r.below(10) {
-        // the solved one, with other levels at violated pairs, which aren't read
-        0 => for i in 0..values.len() {
-            if values[i] == 0 {
-                levels[i] = r.below(0x10000);
-            }
-        },
-        // the same order of levels, spread out
-        1 => {
-            let factor = r.range(1, (0xFFFF / levels.iter().max().unwrap().max(&1)).min(50));
-            levels.iter_mut().for_each(|l| *l *= factor);
-        }
-        // a level equal to its support, one above, or far off
-        2 | 3 => for _ in 0..r.pick(&[1, 1, 2, 5]) {
-            let s = r.below(case.shapes.len());
-            let a = r.below(case.nodes);
-            let pair = case.pair(s, a);
-            if values[pair] > 0 {
-                let support = case.support(s, a, &values, &levels);
-                levels[pair] = r.pick(&[support, support, support + 1, 0, 0xFFFF, levels[pair] + 256, levels[pair] / 2]).min(0xFFFF);
-            }
-        },
-        // a few values changed
-        4 => for _ in 0..r.pick(&[1, 1, 2, 5]) {
-            let pair = r.below(values.len());
-            values[pair] = r.below(3) as u8;
-        },
-        5 => {
-            if let Some(stable) = another_stable(r, case) {
-                values = stable;
-            }
-            levels = as_solved(case, &values);
-        }
-        6 => {
-            values = another_supported(r, case);
-            // the search for favourable levels is slow on large cases
-            levels = if r.one_in(2) && case.pairs() < 600 { favourable(case, &values) } else { random_levels(r, case) };
-        }
-        7 => {
-            values = random_values(r, case);
-            levels = random_levels(r, case);
-        }
-        8 => {
-            let all = r.below(3) as u8;
-            values.iter_mut().for_each(|v| *v = all);
-        }
-        // bytes that are no values
-        _ => for _ in 0..r.pick(&[1, 1, 2, 5]) {
-            let pair = r.below(values.len());
-            values[pair] = r.pick(&[3, 4, 128, 255, 2]);
-        },
-    }
-    Proposal { values, levels }
+    proposal
 }
+
+/// Levels of violated pairs aren't read.
+fn violated_levels(r: &mut Random, _: &Case, proposal: &mut Proposal) {
+    for (value, level) in proposal.values.iter().zip(&mut proposal.levels) {
+        if *value == 0 {
+            *level = r.below(0x10000);
+        }
+    }
+}
+
+/// In the same order, further apart.
+fn spread_levels(r: &mut Random, _: &Case, proposal: &mut Proposal) {
+    let greatest = proposal.levels.iter().max().unwrap();
+    let factor = r.range(1, (0xFFFF / greatest.max(&1)).min(50));
+    proposal.levels.iter_mut().for_each(|level| *level *= factor);
+}
+
+/// A level equal to its support, one above, or far off.
+fn levels_about_support(r: &mut Random, case: &Case, proposal: &mut Proposal) {
+    for _ in 0..r.pick(&[1, 1, 2, 5]) {
+        let (s, a) = (r.below(case.shapes.len()), r.below(case.nodes));
+        let pair = case.pair(s, a);
+        if proposal.values[pair] > 0 {
+            let (level, support) = (proposal.levels[pair], case.support(s, a, &proposal.values, &proposal.levels));
+            proposal.levels[pair] = r.pick(&[support, support, support + 1, 0, 0xFFFF, level + 256, level / 2]).min(0xFFFF);
+        }
+    }
+}
+
+fn changed_values(r: &mut Random, _: &Case, proposal: &mut Proposal) {
+    for _ in 0..r.pick(&[1, 1, 2, 5]) {
+        let pair = r.below(proposal.values.len());
+        proposal.values[pair] = r.below(3) as u8;
+    }
+}
+
+fn as_another_stable(r: &mut Random, case: &Case, proposal: &mut Proposal) {
+    if let Some(stable) = another_stable(r, case) {
+        proposal.values = stable;
+    }
+    proposal.levels = as_solved(case, &proposal.values);
+}
+
+fn as_another_supported(r: &mut Random, case: &Case, proposal: &mut Proposal) {
+    proposal.values = another_supported(r, case);
+    // the search for favourable levels is slow on large cases
+    let search = r.one_in(2) && case.pairs() < 600;
+    proposal.levels = if search { favourable(case, &proposal.values) } else { random_levels(r, case) };
+}
+
+fn at_random(r: &mut Random, case: &Case, proposal: &mut Proposal) {
+    proposal.values = random_values(r, case);
+    proposal.levels = random_levels(r, case);
+}
+
+fn all_the_same(r: &mut Random, _: &Case, proposal: &mut Proposal) {
+    let all = r.below(3) as u8;
+    proposal.values.iter_mut().for_each(|value| *value = all);
+}
+
+fn no_values(r: &mut Random, _: &Case, proposal: &mut Proposal) {
+    for _ in 0..r.pick(&[1, 1, 2, 5]) {
+        let pair = r.below(proposal.values.len());
+        proposal.values[pair] = r.pick(&[3, 4, 128, 255, 2]);
+    }
+}
+
+// ---- All assignments
 
 /// All assignments of values 0 to 2, for cases of few pairs.
 pub fn assignments(pairs: usize) -> impl Iterator<Item = Vec<u8>> {

@@ -1,7 +1,8 @@
-//! The reference behind the library's C names, so that the tests can be tried where the library isn't built.
+//! The reference behind the library's C names, so that the tests can be tried where the library isn't built. JUDGE_FAULT plants a wrong answer.
+#[path = "../planted/faults.rs"]
+mod faults;
 #[allow(dead_code)]
 mod reference;
-use reference::Judge;
 use std::slice::{from_raw_parts, from_raw_parts_mut};
 
 #[repr(C)]
@@ -9,30 +10,31 @@ pub struct Row<const N: usize>([usize; N]);
 
 #[no_mangle]
 pub unsafe extern "C" fn judge_read(c: *const u8, cn: usize) -> Row<7> {
-    Row(Judge::new(from_raw_parts(c, cn)).reading())
+    Row(faults::read(from_raw_parts(c, cn)))
 }
 
 #[no_mangle]
 pub unsafe extern "C" fn judge_solve(c: *const u8, cn: usize, v: *mut u8, vn: usize, l: *mut u8, ln: usize, d: *mut u8, dn: usize) -> Row<8> {
-    Row(Judge::new(from_raw_parts(c, cn)).solving(from_raw_parts_mut(v, vn), from_raw_parts_mut(l, ln), from_raw_parts_mut(d, dn)))
+    faults::stray(c, cn, v, vn);
+    Row(faults::solve(from_raw_parts(c, cn), from_raw_parts_mut(v, vn), from_raw_parts_mut(l, ln), from_raw_parts_mut(d, dn)))
 }
 
 #[no_mangle]
 pub unsafe extern "C" fn judge_check(c: *const u8, cn: usize, v: *const u8, vn: usize, l: *const u8, ln: usize) -> Row<4> {
-    Row(Judge::new(from_raw_parts(c, cn)).checking(from_raw_parts(v, vn), from_raw_parts(l, ln)))
+    Row(faults::check(from_raw_parts(c, cn), from_raw_parts(v, vn), from_raw_parts(l, ln)))
 }
 
 #[no_mangle]
 pub unsafe extern "C" fn judge_rank(c: *const u8, cn: usize, s: *mut u8, sn: usize) -> Row<3> {
-    Row(Judge::new(from_raw_parts(c, cn)).ranking(from_raw_parts_mut(s, sn)))
+    Row(faults::rank(from_raw_parts(c, cn), from_raw_parts_mut(s, sn)))
 }
 
 #[no_mangle]
 pub unsafe extern "C" fn solve(c: *const u8, cn: usize, v: *mut u8, vn: usize, l: *mut u8, ln: usize, d: *mut u8, dn: usize) -> usize {
-    judge_solve(c, cn, v, vn, l, ln, d, dn).0[0]
+    faults::number(judge_solve(c, cn, v, vn, l, ln, d, dn).0[0])
 }
 
 #[no_mangle]
 pub unsafe extern "C" fn check(c: *const u8, cn: usize, v: *const u8, vn: usize, l: *const u8, ln: usize) -> usize {
-    judge_check(c, cn, v, vn, l, ln).0[0]
+    faults::number(judge_check(c, cn, v, vn, l, ln).0[0])
 }

@@ -1,16 +1,22 @@
 //! A crash, or a call that doesn't come back, still leaves its case behind.
 
-use std::ffi::CStr;
+use std::ffi::{CStr, CString};
 
 type Part = (&'static str, *const u8, usize);
 
 const NONE: Part = ("", std::ptr::null(), 0);
+static mut TEST: &str = "";
 static mut NAME: &str = "";
 static mut PARTS: [Part; 4] = [NONE; 4];
-static mut FILE: &CStr = c"";
+static mut FILE: Option<&CStr> = None;
 static mut STACK: [u8; 65536] = [0; 65536];
 
-/// Called right before the library is, with the slices that it gets; it has a minute from then on.
+/// Where a case is left behind: beside the program, under its name.
+pub fn stored() -> String {
+    std::env::args().next().unwrap() + "-failure.hex"
+}
+
+/// Comes right before a call of the library, with the slices that it gets; it has a minute from then on.
 pub fn watch(name: &'static str, parts: &[(&'static str, &[u8])]) {
     unsafe {
         NAME = name;
@@ -58,19 +64,16 @@ unsafe fn say(to: i32, text: &[u8]) {
 
 extern "C" fn on_signal(signal: i32) {
     unsafe {
-        let (name, parts, stored) = (NAME, PARTS, FILE);
+        let (test, name, parts, stored) = (TEST, NAME, PARTS, FILE.unwrap());
         let file = creat(stored.as_ptr(), 0o644);
         let what: &[u8] = if signal == 14 { b" did not come back within a minute\n" } else { b" crashed\n" };
-        for to in [1, file] {
-            say(to, if to == file { b"# " } else { b"" });
-            say(to, name.as_bytes());
-            say(to, what);
+        let name = name.as_bytes();
+        for part in [test.as_bytes(), b": ", name, what, test.as_bytes(), b": case stored in ", stored.to_bytes(), b"\n"] {
+            say(1, part);
         }
-        say(1, b"the case is stored in ");
-        say(1, stored.to_bytes());
-        say(1, b"\n");
-        say(file, b"call ");
-        say(file, name.as_bytes());
+        for part in [b"# ", name, what, b"call ", name] {
+            say(file, part);
+        }
         for (name, start, length) in parts.iter().filter(|part| !part.0.is_empty()) {
             say(file, b"\n");
             say(file, name.as_bytes());
@@ -85,11 +88,13 @@ extern "C" fn on_signal(signal: i32) {
     }
 }
 
-pub fn on_signals(stored: &'static CStr) {
+pub fn on_signals(test: &'static str) {
+    let stored = CString::new(stored()).unwrap();
     unsafe {
-        FILE = stored;
+        TEST = test;
+        FILE = Some(Box::leak(stored.into_boxed_c_str()));
         // a stack of its own, for a stack that ran over
-        sigaltstack(&AlternateStack { start: (&raw mut STACK).cast(), flags: 0, length: 65536 }, std::ptr::null_mut());
+        sigaltstack(&AlternateStack { start: std::ptr::addr_of_mut!(STACK).cast(), flags: 0, length: 65536 }, std::ptr::null_mut());
         // SA_ONSTACK; SIGILL, SIGABRT, SIGBUS, SIGFPE, SIGSEGV, SIGALRM
         let action = Action { handler: on_signal as *const () as usize, mask: [0; 16], flags: 0x0800_0000, restorer: 0 };
         for signal in [4, 6, 7, 8, 11, 14] {

@@ -49,28 +49,30 @@ pub fn prolog_facts(k: usize, case: &Case) -> String {
     format!("case({k},{},{}).\n{}", case.nodes, case.shapes.len(), common(k, case))
 }
 
-fn output(name: &str, program: &str, ending: &str, command: &mut Command) -> String {
-    std::fs::create_dir_all("target/tests/solver").ok();
-    let file = format!("target/tests/solver/{name}.{ending}");
-    std::fs::write(&file, program).expect("target/tests/solver");
-    let done = command.arg(file).stdin(Stdio::null()).output().expect("the solver starts");
-    let errors = String::from_utf8_lossy(&done.stderr);
-    if errors.contains("rror") {
-        println!("solver: {name}: {errors}");
+/// What a solver writes on a program. It has to end with the status given and to report nothing, or its answers are none.
+fn output(name: &str, program: &str, ending: &str, status: i32, command: &mut Command) -> String {
+    let file = format!("{}-{name}.{ending}", std::env::args().next().unwrap());
+    std::fs::write(&file, program).expect("the folder of this program");
+    let done = command.arg(&file).stdin(Stdio::null()).output().expect("the solver starts");
+    let (out, errors) = (String::from_utf8_lossy(&done.stdout), String::from_utf8_lossy(&done.stderr));
+    if done.status.code() != Some(status) || !errors.is_empty() {
+        let last: Vec<&str> = out.lines().rev().take(8).collect();
+        println!("solver: {command:?} ended with {}, expected {status}; it said:\n{errors}", done.status);
+        last.iter().rev().for_each(|line| println!("{line:.200}"));
         std::process::exit(1);
     }
-    String::from_utf8(done.stdout).expect("text")
+    out.into_owned()
 }
 
-/// clingo on a program beside judge.lp.
+/// clingo on a program beside judge.lp. Its status is a set of bits: 10 an answer was found, 20 the search was exhausted.
 pub fn clingo(name: &str, program: &str, words: &[&str]) -> String {
-    output(name, program, "lp", Command::new("clingo").args(words).args(["--warn=none", "tests/solver/judge.lp"]))
+    output(name, program, "lp", 30, Command::new("clingo").args(words).args(["--warn=none", "tests/solver/judge.lp"]))
 }
 
-/// SWI-Prolog's answers to a program after judge.pl.
+/// SWI-Prolog's answers to a program after judge.pl. Where they break off, what comes after them ends with status 2.
 pub fn swipl(name: &str, program: &str) -> String {
     let program = format!("{program}:- initialization((answers, halt)).\n");
-    output(name, &program, "pl", Command::new("swipl").args(["--stack-limit=4g", "-q", "-f", "tests/solver/judge.pl"]))
+    output(name, &program, "pl", 0, Command::new("swipl").args(["--stack-limit=4g", "-q", "-t", "halt(2)", "-f", "tests/solver/judge.pl"]))
 }
 
 pub type Atoms<'a> = Vec<(&'a str, Vec<usize>)>;

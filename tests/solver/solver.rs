@@ -1,11 +1,17 @@
 //! The library against public solvers: clingo enumerates all stable assignments of small cases and gives the cautious and brave consequences of larger ones; SWI-Prolog gives the well-founded model.
 
 #[allow(dead_code)]
+#[path = "../differential/calls.rs"]
+mod calls;
+#[allow(dead_code)]
 #[path = "../differential/generator.rs"]
 mod generator;
 #[allow(dead_code)]
 #[path = "../differential/interface.rs"]
 mod interface;
+#[allow(dead_code)]
+#[path = "../differential/plan.rs"]
+mod plan;
 #[allow(dead_code)]
 #[path = "../differential/proposals.rs"]
 mod proposals;
@@ -18,6 +24,7 @@ mod facts;
 
 use facts::*;
 use generator::*;
+use plan::{Group, Kind, Plan, Work};
 use proposals::*;
 use reference::Case;
 use std::collections::BTreeSet;
@@ -34,9 +41,7 @@ impl Asked {
         let bytes = bytes(commands);
         let case = reference::read(&bytes).expect("a sound case");
         let mut values = vec![9; case.pairs()];
-        watch::watch("solve", &[("case", &bytes)]);
-        let number = interface::solve(&bytes, &mut values, &mut vec![0; 2 * case.pairs()], &mut vec![0; case.targets.len()]);
-        watch::rest();
+        let number = calls::solve(&bytes, &mut values, &mut vec![0; 2 * case.pairs()], &mut vec![0; case.targets.len()]);
         let asked = Asked { bytes, case, values };
         if number != 0 {
             asked.fail(format!("solve refused it as {number}"));
@@ -46,17 +51,15 @@ impl Asked {
 
     fn fail(&self, difference: String) -> ! {
         let hex: String = self.bytes.iter().map(|b| format!("{b:02X} ")).collect();
-        std::fs::write("target/tests/solver-failure.hex", format!("# {difference}\ncase {hex}\n")).ok();
+        std::fs::write(watch::stored(), format!("# {difference}\ncase {hex}\n")).ok();
         println!("solver: {difference}");
-        println!("solver: the case is stored in target/tests/solver-failure.hex");
+        println!("solver: case stored in {}", watch::stored());
         std::process::exit(1);
     }
 
     fn accepts(&self, values: &[u8], levels: &[usize]) -> bool {
         let levels = level_bytes(levels);
-        watch::watch("judge_check", &[("case", &self.bytes), ("values", values), ("levels", &levels)]);
-        let answer = interface::judge_check(&self.bytes, values, &levels);
-        watch::rest();
+        let answer = calls::judge_check(&self.bytes, values, &levels);
         if answer[0] == 0 {
             let valid = self.case.targets.iter().filter(|(s, a)| values[self.case.pair(*s, *a)] == 2).count();
             let open = values.iter().filter(|v| **v == 1).count();
@@ -68,8 +71,44 @@ impl Asked {
     }
 }
 
+/// How much was compared.
+#[derive(Default)]
+struct Tally {
+    /// cases, by what they were held to
+    enumerated: usize,
+    consequences: usize,
+    well_founded: usize,
+    /// cases with an undetermined pair, and with more than one stable assignment
+    open: usize,
+    several: usize,
+    /// assignments that check has to accept, and to refuse
+    stable: usize,
+    unstable: usize,
+}
+
+impl Work for Tally {
+    fn done(&self) -> usize {
+        self.enumerated + self.consequences + self.well_founded
+    }
+}
+
+impl Tally {
+    fn group(&self) -> Group {
+        let counts = [
+            ("all stable assignments by clingo", self.enumerated),
+            ("consequences by clingo", self.consequences),
+            ("well-founded model by SWI-Prolog", self.well_founded),
+            ("with an undetermined pair", self.open),
+            ("with several stable assignments", self.several),
+            ("stable assignments", self.stable),
+            ("other assignments", self.unstable),
+        ];
+        ("compared", counts.map(|(name, count)| (name.to_string(), count)).to_vec())
+    }
+}
+
 /// Everything that document 01 says of the solved and of all stable assignments, from the list of all of them.
-fn hold_to_all(r: &mut Random, asked: &Asked, stable: &BTreeSet<Vec<u8>>) {
+fn hold_to_all(tally: &mut Tally, r: &mut Random, asked: &Asked, stable: &BTreeSet<Vec<u8>>) {
     if !stable.contains(&asked.values) {
         asked.fail(format!("the solved assignment {:?} is none of the {} stable ones", asked.values, stable.len()));
     }
@@ -87,13 +126,14 @@ fn hold_to_all(r: &mut Random, asked: &Asked, stable: &BTreeSet<Vec<u8>>) {
             }
         }
     }
+    tally.open += asked.values.contains(&1) as usize;
+    tally.several += (stable.len() > 1) as usize;
+    tally.stable += stable.len();
     if asked.case.pairs() > 8 {
         return;
     }
-    for values in assignments(asked.case.pairs()) {
-        if stable.contains(&values) {
-            continue;
-        }
+    for values in assignments(asked.case.pairs()).filter(|values| !stable.contains(values)) {
+        tally.unstable += 1;
         let mut tries = vec![favourable(&asked.case, &values), as_solved(&asked.case, &values)];
         for _ in 0..3 {
             tries.push(random_levels(r, &asked.case));
@@ -107,7 +147,7 @@ fn hold_to_all(r: &mut Random, asked: &Asked, stable: &BTreeSet<Vec<u8>>) {
 }
 
 /// All stable assignments of many cases in one run: an answer set selects one case and holds one assignment of it.
-fn enumerate(r: &mut Random, batch: &[Asked]) -> usize {
+fn enumerate(tally: &mut Tally, r: &mut Random, batch: &[Asked]) {
     let mut program = String::from("1 { on(K) : case(K) } 1.\n#show on/1. #show v/3. #show p/3.\n");
     for (k, asked) in batch.iter().enumerate() {
         program += &facts(k, &asked.case);
@@ -119,13 +159,13 @@ fn enumerate(r: &mut Random, batch: &[Asked]) -> usize {
         stable[k].insert(assignment(k, &batch[k].case, &answer));
     }
     for (asked, stable) in batch.iter().zip(&stable) {
-        hold_to_all(r, asked, stable);
+        hold_to_all(tally, r, asked, stable);
     }
-    stable.iter().map(|s| s.len()).sum()
+    tally.enumerated += batch.len();
 }
 
 /// Cautious and brave consequences of cases beside each other. Each has a stable assignment, so those of all together are those of each.
-fn consequences(batch: &[Asked]) {
+fn consequences(tally: &mut Tally, batch: &[Asked]) {
     let mut program = String::from("on(K) :- case(K).\n#show v/3. #show p/3.\n");
     for (k, asked) in batch.iter().enumerate() {
         program += &facts(k, &asked.case);
@@ -149,10 +189,11 @@ fn consequences(batch: &[Asked]) {
             }
         }
     }
+    tally.consequences += batch.len();
 }
 
 /// The well-founded model of many cases, one after another in one process.
-fn well_founded(batch: &[Asked]) {
+fn well_founded(tally: &mut Tally, batch: &[Asked]) {
     let mut program = String::new();
     for (k, asked) in batch.iter().enumerate() {
         program += &prolog_facts(k, &asked.case);
@@ -166,57 +207,65 @@ fn well_founded(batch: &[Asked]) {
             asked.fail(format!("SWI-Prolog has {:?}, the library {expected:?}", lines.get(k)));
         }
     }
+    tally.well_founded += batch.len();
 }
 
 fn batch(r: &mut Random, count: usize, size: impl Fn(&mut Random) -> Size) -> Vec<Asked> {
     (0..count).map(|_| { let size = size(r); Asked::new(&random_case(r, &size)) }).collect()
 }
 
+/// Up to 16 pairs and many nots: some thousands of stable assignments at the most.
+fn many_nots(r: &mut Random) -> Size {
+    let nodes = r.range(1, 5);
+    let order = r.pick(&[Order::Any, Order::Next]);
+    Size { nodes, shapes: r.range(1, 16 / nodes), edges: r.range(1, 8), paths: r.range(0, 4), nots: r.range(2, 10), order, ..small(r) }
+}
+
+fn of_any_size(r: &mut Random) -> Size {
+    match r.below(12) {
+        0..=3 => small(r),
+        4..=10 => medium(r),
+        _ => Size { nodes: r.range(25, 70), shapes: r.range(10, 20), edges: r.range(40, 150), ..medium(r) },
+    }
+}
+
+fn chains() -> Vec<Asked> {
+    let built = [positive_chain(9, 12), mixed_chain(8, 11), denial_chain(8, 10), open_chain(7, 6, 7), open_beside_denials(6, 8, 6), open_after_denials(6, 9, 6)];
+    built.iter().map(Asked::new).collect()
+}
+
+/// A turn is a batch of cases, for which a solver starts once.
+fn kinds() -> Vec<Kind<Tally>> {
+    vec![
+        Kind::drawn("tiny", 16, |tally, r, _| {
+            let cases = batch(r, 40, tiny);
+            enumerate(tally, r, &cases);
+        }),
+        Kind::drawn("many nots", 16, |tally, r, _| {
+            let mut cases = batch(r, 30, many_nots);
+            cases.push(Asked::new(&clashes(r, 2, 1)));
+            enumerate(tally, r, &cases);
+        }),
+        Kind::drawn("medium", 12, |tally, r, _| consequences(tally, &batch(r, 20, medium))),
+        Kind::drawn("any size", 8, |tally, r, _| well_founded(tally, &batch(r, 60, of_any_size))),
+        Kind::listed("chains", 1, |tally, _, _| well_founded(tally, &chains())),
+    ]
+}
+
+fn run(words: &[String]) -> Result<String, String> {
+    let plan = Plan::of(words)?;
+    let mut tally = Tally::default();
+    let mut groups = vec![("turns", plan.run(&kinds(), &mut tally)?)];
+    if plan.is_whole() {
+        groups.push(tally.group());
+    }
+    plan::show(&groups)?;
+    Ok(format!("solver: clingo and SWI-Prolog agree on {} cases, seed {}, {} s", tally.done(), plan.seed, plan.seconds()))
+}
+
 fn main() {
     let words: Vec<String> = std::env::args().skip(1).collect();
-    let word = |name: &str| words.iter().position(|w| w == name).and_then(|i| words.get(i + 1)).map(|w| w.parse::<u64>().expect("a number"));
-    watch::on_signals(c"target/tests/solver-failure.hex");
-    let start = std::time::Instant::now();
-    let mut r = Random(word("--seed").unwrap_or(1));
-    let times = word("--times").unwrap_or(1);
-    let (mut enumerated, mut stable, mut larger, mut founded) = (0, 0, 0, 0);
-    for _ in 0..times {
-        for _ in 0..16 {
-            let cases = batch(&mut r, 40, tiny);
-            stable += enumerate(&mut r, &cases);
-            enumerated += cases.len();
-        }
-        for _ in 0..16 {
-            // up to 16 pairs and many nots: some thousands of stable assignments at the most
-            let mut cases = batch(&mut r, 30, |r| {
-                let nodes = r.range(1, 5);
-                let order = r.pick(&[Order::Any, Order::Next]);
-                Size { nodes, shapes: r.range(1, 16 / nodes), edges: r.range(1, 8), paths: r.range(0, 4), nots: r.range(2, 10), order, ..small(r) }
-            });
-            cases.push(Asked::new(&clashes(&mut r, 2, 1)));
-            stable += enumerate(&mut r, &cases);
-            enumerated += cases.len();
-        }
-        for _ in 0..12 {
-            let cases = batch(&mut r, 20, medium);
-            consequences(&cases);
-            larger += cases.len();
-        }
-        for _ in 0..8 {
-            let mut cases = batch(&mut r, 60, |r| match r.below(12) {
-                0..=3 => small(r),
-                4..=10 => medium(r),
-                _ => Size { nodes: r.range(25, 70), shapes: r.range(10, 20), edges: r.range(40, 150), ..medium(r) },
-            });
-            cases.push(Asked::new(&positive_chain(9, 12)));
-            cases.push(Asked::new(&mixed_chain(8, 11)));
-            cases.push(Asked::new(&denial_chain(8, 10)));
-            cases.push(Asked::new(&open_chain(7, 6, 7)));
-            cases.push(Asked::new(&open_beside_denials(6, 8, 6)));
-            cases.push(Asked::new(&open_after_denials(6, 9, 6)));
-            well_founded(&cases);
-            founded += cases.len();
-        }
-    }
-    println!("solver: clingo agrees on {enumerated} cases with {stable} stable assignments and on the consequences of {larger} larger ones, SWI-Prolog on {founded}, {} s", start.elapsed().as_secs());
+    watch::on_signals("solver");
+    let said = if words == ["--kinds"] { Ok(plan::names(&kinds())) } else { run(&words) };
+    plan::end("solver", said)
 }

@@ -1,0 +1,39 @@
+//! The library's calls, each watched: a crash, or a call that doesn't come back, leaves its case and tables behind.
+
+use crate::interface;
+use crate::watch::{rest, watch};
+
+fn rested<T>(answer: T) -> T {
+    rest();
+    answer
+}
+
+pub fn judge_read(c: &[u8]) -> [usize; 7] {
+    watch("judge_read", &[("case", c)]);
+    rested(interface::judge_read(c))
+}
+
+pub fn judge_solve(c: &[u8], v: &mut [u8], l: &mut [u8], d: &mut [u8]) -> [usize; 8] {
+    watch("judge_solve", &[("case", c), ("values", v), ("levels", l), ("verdicts", d)]);
+    rested(interface::judge_solve(c, v, l, d))
+}
+
+pub fn judge_check(c: &[u8], v: &[u8], l: &[u8]) -> [usize; 4] {
+    watch("judge_check", &[("case", c), ("values", v), ("levels", l)]);
+    rested(interface::judge_check(c, v, l))
+}
+
+pub fn judge_rank(c: &[u8], s: &mut [u8]) -> [usize; 3] {
+    watch("judge_rank", &[("case", c), ("strata", s)]);
+    rested(interface::judge_rank(c, s))
+}
+
+pub fn solve(c: &[u8], v: &mut [u8], l: &mut [u8], d: &mut [u8]) -> usize {
+    watch("solve", &[("case", c), ("values", v), ("levels", l), ("verdicts", d)]);
+    rested(interface::solve(c, v, l, d))
+}
+
+pub fn check(c: &[u8], v: &[u8], l: &[u8]) -> usize {
+    watch("check", &[("case", c), ("values", v), ("levels", l)]);
+    rested(interface::check(c, v, l))
+}

@@ -1,0 +1,107 @@
+//! All operations on one case: tables of many lengths, proposals of many kinds.
+
+use crate::compare::*;
+use crate::generator::Random;
+use crate::proposals::*;
+use crate::reference::Judge;
+
+fn filler(r: &mut Random, length: usize) -> Vec<u8> {
+    let (start, step) = (r.byte(), r.byte());
+    (0..length).map(|i| start.wrapping_add(step.wrapping_mul(i as u8))).collect()
+}
+
+/// A length about the one needed: short, exact or longer.
+fn about(r: &mut Random, needed: usize) -> usize {
+    match r.below(8) {
+        0 | 1 => needed.saturating_sub(1),
+        2 => r.range(0, needed),
+        3 | 4 => needed,
+        5 => needed + 1,
+        _ => needed + r.range(1, 40),
+    }
+}
+
+/// Every operation, `proposals` proposals among them. A case that doesn't read takes one call of each.
+pub fn examine(tally: &mut Tally, r: &mut Random, case: &[u8], proposals: usize) {
+    tally.cases += 1;
+    let mut judge = Judge::new(case);
+    compare_read(tally, &judge, case);
+    if judge.reading()[0] != 0 {
+        let lengths = [0; 4].map(|_| r.pick(&[0, 1, 3, 40, 4096, 8192]));
+        let [v, l, d, s] = lengths.map(|length| filler(r, length));
+        compare_solve(tally, &mut judge, case, &v, &l, &d);
+        compare_check(tally, &judge, case, &v, &l);
+        compare_rank(tally, &judge, case, &s);
+        return;
+    }
+    examine_tables(tally, r, &mut judge, case);
+    examine_proposals(tally, r, &mut judge, case, proposals);
+}
+
+/// Tables of the exact length, longer, each one short, and of lengths at random.
+fn examine_tables(tally: &mut Tally, r: &mut Random, judge: &mut Judge, case: &[u8]) {
+    let [_, _, nodes, _, _, shapes, targets] = judge.reading();
+    let exact = [shapes * nodes, 2 * shapes * nodes, targets];
+    let mut lengths = vec![exact, exact.map(|n| n + r.range(1, 33))];
+    for i in 0..3 {
+        let mut short = exact;
+        short[i] = short[i].saturating_sub(1);
+        lengths.push(short);
+    }
+    lengths.push(exact.map(|n| about(r, n)));
+    for [v, l, d] in lengths {
+        let (v, l, d) = (filler(r, v), filler(r, l), filler(r, d));
+        compare_solve(tally, judge, case, &v, &l, &d);
+    }
+    for length in [shapes, shapes + r.range(1, 9), shapes.saturating_sub(1), about(r, shapes)] {
+        let strata = filler(r, length);
+        compare_rank(tally, judge, case, &strata);
+    }
+}
+
+fn examine_proposals(tally: &mut Tally, r: &mut Random, judge: &mut Judge, case: &[u8], count: usize) {
+    let solved = judge.solved().clone();
+    let read = judge.read.clone().unwrap();
+    compare_check(tally, judge, case, &solved.values, &level_bytes(&solved.levels));
+    for _ in 0..count {
+        let proposal = proposal(r, &read, &solved);
+        let (mut values, mut levels) = (proposal.values, level_bytes(&proposal.levels));
+        // bytes behind the tables aren't read, whatever they are
+        if r.one_in(2) {
+            let more = r.range(1, 20);
+            values.extend(filler(r, more));
+            levels.extend(filler(r, more));
+        }
+        if r.one_in(12) {
+            values.truncate(about(r, read.pairs()));
+            levels.truncate(about(r, 2 * read.pairs()));
+        }
+        compare_check(tally, judge, case, &values, &levels);
+        *tally.proposals.entry(proposal.kind).or_insert(0) += 1;
+    }
+}
+
+/// Every assignment of a case of few pairs that is supported or stable, and every 16th other.
+pub fn examine_all_assignments(tally: &mut Tally, r: &mut Random, case: &[u8]) {
+    let judge = Judge::new(case);
+    let read = judge.read.clone().unwrap();
+    tally.cases += 1;
+    for values in assignments(read.pairs()) {
+        let stable = read.stable(&values);
+        let supported = supported(&read, &values);
+        if !stable && !supported && !r.one_in(16) {
+            continue;
+        }
+        let mut tries = vec![favourable(&read, &values), as_solved(&read, &values)];
+        if supported {
+            tries.push(random_levels(r, &read));
+        }
+        let mut accepted = false;
+        for levels in &tries {
+            accepted |= judge.checking(&values, &level_bytes(levels))[0] == 0;
+            compare_check(tally, &judge, case, &values, &level_bytes(levels));
+        }
+        // the reference held to the document's own claim: some levels are accepted exactly where the assignment is stable
+        assert_eq!(accepted, stable, "reference: levels and stability disagree on {case:?}, {values:?}");
+    }
+}

@@ -1,0 +1,151 @@
+//! Wrong answers to plant in the library's stand-in, one at a time: JUDGE_FAULT in the environment names one, and without it the stand-in answers as the reference does. tests/planted/run says which test has to find which.
+
+use crate::reference::{Case, Judge, Shape};
+use std::sync::atomic::{AtomicU8, Ordering};
+
+fn fault() -> String {
+    std::env::var("JUDGE_FAULT").unwrap_or_default()
+}
+
+/// The place of a refusal one too high.
+fn misplaced<const N: usize>(mut answer: [usize; N]) -> [usize; N] {
+    answer[1] += (answer[0] != 0) as usize;
+    answer
+}
+
+pub fn read(case: &[u8]) -> [usize; 7] {
+    let answer = Judge::new(case).reading();
+    match fault().as_str() {
+        "place" => misplaced(answer),
+        _ => answer,
+    }
+}
+
+pub fn solve(case: &[u8], v: &mut [u8], l: &mut [u8], d: &mut [u8]) -> [usize; 8] {
+    let fault = fault();
+    let before = (v.to_vec(), l.to_vec(), d.to_vec());
+    let mut judge = Judge::new(case);
+    if fault == "double-not" {
+        cancel_double_nots(&mut judge);
+    }
+    let mut answer = judge.solving(v, l, d);
+    let [_, _, nodes, _, _, shapes, targets] = judge.reading();
+    let pairs = shapes * nodes;
+    let solved = answer[0] == 0;
+    match fault.as_str() {
+        "place" => answer = misplaced(answer),
+        // a refusal carries a count, or writes
+        "count" if !solved => answer[2] = 1,
+        "writes" if !solved && !v.is_empty() => v[0] ^= 1,
+        // a sound case is refused, if a shape depends on its own denial
+        "refuses" if solved && judge.ranking(&mut [0; 32])[0] == 17 => {
+            v.copy_from_slice(&before.0);
+            l.copy_from_slice(&before.1);
+            d.copy_from_slice(&before.2);
+            answer = [17, 0, 0, 0, 0, 0, 0, 0];
+        }
+        "rounds" if solved => answer[2] += 1,
+        "undetermined" if solved => {
+            v[..pairs].fill(1);
+            d[..targets].fill(1);
+            answer = [0, 0, answer[2], 0, pairs, 0, targets, 0];
+        }
+        // one byte of a table is wrong
+        "level" if solved && pairs > 0 => l[2 * pairs - 1] ^= 1,
+        "verdict" if solved && targets > 0 => d[targets - 1] = (d[targets - 1] + 1) % 3,
+        "later" if solved && v.len() > pairs => v[pairs] ^= 1,
+        "levels-untouched" if solved => l.copy_from_slice(&before.1),
+        "verdicts-untouched" if solved => d.copy_from_slice(&before.2),
+        // the answer goes by a byte that nobody has set
+        "unset" if solved && before.0.get(0) == Some(&0x5E) => answer[2] += 1,
+        "shared" if solved => pass_through_shared(v),
+        _ => {}
+    }
+    answer
+}
+
+fn cancel_double_nots(judge: &mut Judge) {
+    if let Ok(case) = &mut judge.read {
+        let shapes = case.shapes.clone();
+        for shape in &mut case.shapes {
+            if let Shape::Not(inner) = *shape {
+                if let Shape::Not(s) = shapes[inner] {
+                    *shape = Shape::Or(s, s);
+                }
+            }
+        }
+    }
+}
+
+/// A buffer that all threads share; the pause lets another one in.
+fn pass_through_shared(values: &mut [u8]) {
+    const ZERO: AtomicU8 = AtomicU8::new(0);
+    static SHARED: [AtomicU8; 4096] = [ZERO; 4096];
+    values.iter().zip(&SHARED).for_each(|(value, kept)| kept.store(*value, Ordering::Relaxed));
+    std::thread::sleep(std::time::Duration::from_micros(100));
+    values.iter_mut().zip(&SHARED).for_each(|(value, kept)| *value = kept.load(Ordering::Relaxed));
+}
+
+pub fn check(case: &[u8], v: &[u8], l: &[u8]) -> [usize; 4] {
+    let judge = Judge::new(case);
+    let answer = judge.checking(v, l);
+    match fault().as_str() {
+        "place" => misplaced(answer),
+        "turns-down" if answer[0] == 0 => [14, 0, 0, 0],
+        "supported" if answer[0] == 15 => leniently(&judge.read.unwrap(), v, l, |_, _| true),
+        "equal" if answer[0] == 15 => leniently(&judge.read.unwrap(), v, l, |level, support| level >= support),
+        _ => answer,
+    }
+}
+
+/// Checking, by another sense of justified.
+fn leniently(case: &Case, v: &[u8], l: &[u8], justified: fn(usize, usize) -> bool) -> [usize; 4] {
+    let v = &v[..case.pairs()];
+    let levels: Vec<usize> = l.chunks(2).map(|level| level.iter().rev().fold(0, |sum, byte| 256 * sum + *byte as usize)).collect();
+    for pair in 0..case.pairs() {
+        let (s, a) = (pair / case.nodes, pair % case.nodes);
+        if v[pair] != case.rule_value(s, a, v) {
+            return [14, pair, 0, 0];
+        }
+        if v[pair] > 0 && !justified(levels[pair], case.support(s, a, v, &levels)) {
+            return [15, pair, 0, 0];
+        }
+    }
+    let valid = case.targets.iter().filter(|(s, a)| v[case.pair(*s, *a)] == 2).count();
+    [0, 0, v.iter().filter(|value| **value == 1).count(), valid]
+}
+
+pub fn rank(case: &[u8], strata: &mut [u8]) -> [usize; 3] {
+    let judge = Judge::new(case);
+    let mut answer = judge.ranking(strata);
+    let shapes = judge.reading()[5];
+    match fault().as_str() {
+        "place" => answer = misplaced(answer),
+        "stratum" if answer[0] == 0 && shapes > 0 => strata[shapes - 1] += 1,
+        "never-17" if answer[0] == 17 => {
+            strata[..shapes].fill(0);
+            answer = [0, 0, 1];
+        }
+        _ => {}
+    }
+    answer
+}
+
+/// The number that the desk's calls answer.
+pub fn number(number: usize) -> usize {
+    match fault().as_str() {
+        "plain" => 0,
+        _ => number,
+    }
+}
+
+/// Touches what lies beside the slices, or crashes.
+pub unsafe fn stray(case: *const u8, length: usize, values: *mut u8, values_length: usize) {
+    match fault().as_str() {
+        "reads-past" => drop(case.add(length).read_volatile()),
+        "reads-before" => drop(case.sub(1).read_volatile()),
+        "writes-past" => values.add(values_length).write_volatile(0),
+        "crash" => std::process::abort(),
+        _ => {}
+    }
+}
