@@ -156,15 +156,15 @@ module _ {t : List ℕ} {w into from : ℕ} where
     }
 
 -- The first i of n words were set to those of g
-pub record Filled (g : ℕ → ℕ) (n i : ℕ) (t : List ℕ) : Type 0 where
+pub record FilledTo (g : ℕ → ℕ) (n i : ℕ) (t : List ℕ) : Type 0 where
   pub most : i ≤ n
   pub words : (k : ℕ) → k < i → getD t k 0 ≡ g k
   pub long : length t ≡ n
 
-pub filled-none : {g : ℕ → ℕ} {n : ℕ} {t : List ℕ} → length t ≡ n → Filled g n 0 t
+pub filled-none : {g : ℕ → ℕ} {n : ℕ} {t : List ℕ} → length t ≡ n → FilledTo g n 0 t
 filled-none h = record { most = omega arith; words = λ k h. absurd (omega arith); long = h }
 
-pub filled-more : {g : ℕ → ℕ} {n i : ℕ} {t : List ℕ} → i < length t → Filled g n i t → Filled g n (i + 1) (set t i (g i))
+pub filled-more : {g : ℕ → ℕ} {n i : ℕ} {t : List ℕ} → i < length t → FilledTo g n i t → FilledTo g n (i + 1) (set t i (g i))
 filled-more {g} {n} {i} {t} h v = record {
   most = omega (arith, v .long);
   words = λ k l.
@@ -176,7 +176,7 @@ filled-more {g} {n} {i} {t} h v = record {
 }
 
 -- a table of words that are 0 has no members, and one with the words of another is the other
-pub filled-cleared : {t t′ : List ℕ} {i : ℕ} → length t′ ≤ i → Filled (λ k. 0) (length t) i t′ → Cleared t t′
+pub filled-cleared : {t t′ : List ℕ} {i : ℕ} → length t′ ≤ i → FilledTo (λ k. 0) (length t) i t′ → Cleared t t′
 unfolding member
 filled-cleared {t} {t′} {i} h v = record {
   members = λ w r b.
@@ -186,7 +186,7 @@ filled-cleared {t} {t′} {i} h v = record {
   long = v .long;
 }
 
-pub filled-same : {u t : List ℕ} {i : ℕ} → length t ≤ i → Filled (λ k. getD u k 0) (length u) i t → t ≡ u
+pub filled-same : {u t : List ℕ} {i : ℕ} → length t ≤ i → FilledTo (λ k. getD u k 0) (length u) i t → t ≡ u
 filled-same {u} {t} {i} h v = ext-getD 0 t u (v .long) (λ k l. v .words k (omega arith))
 
 -- The first i of w words pass a test

@@ -1,5 +1,8 @@
--- The laws of reading: the format's tests, storing commands in tables, the walk over the input.
+-- Laws of the commands, of what reading gives, and of the case in a table of rows.
 pub mod Formats
-pub mod Storing
-pub mod Walking
+pub mod Steps
 pub mod Sound
+pub mod RefusalNumbers
+pub mod InRows
+pub mod Operands
+pub mod Encoding

@@ -1,17 +1,16 @@
 -- Every case that reading gives is sound, the empty one that stands for a refusal too. Assumes nothing.
 use Prim.Native.Nat.{ℕ, zero, suc, _+_, _≤_, _<_}
-use native.Mathlib.Nat.{add-zero}
 use native.Mathlib.Omega.{arith}
 use mathlib.Core.Path.{_≡_, refl, sym, ap, _∙_}
-use mathlib.Core.Logic.{_⊎_, inl, inr, ⊎-elim}
-use mathlib.Core.Bool.{Bool, true, false, cond, _&&_, false≢true, and-eq-true-iff, and-true}
+use mathlib.Core.Logic.{⊎-elim}
+use mathlib.Core.Bool.{Bool, true, cond, _&&_, false≢true, and-eq-true-iff, and-true}
 use mathlib.Core.List.{List, [], _∷_, _++_}
 use lib.ListN.{length, getD, drop, length-append, List·getD-append}
-use lib.Seq.{getD-append-seam, getD-drop}
+use lib.Seq.{getD-append-seam}
 use lib.Dec.{eqb, ltb}
 use borrow.Author.Tests.{leb-true, eqb-true}
 use Rattle.fixpoint.specs.Lists.{all}
-use Rattle.fixpoint.proofs.Lists.{tests, lt-cases, all-append, all-map, all-mono}
+use Rattle.fixpoint.proofs.Lists.{tests, lt-cases, all-append, all-map, all-mono, by-test}
 use Rattle.cases.specs.declared.command.Edge.{Edge}
 use Rattle.cases.specs.declared.command.Target.{Target}
 use Rattle.cases.specs.declared.command.Row.{Row}
@@ -21,21 +20,16 @@ use Rattle.cases.specs.declared.command.Command.the-variants.{Edge as Ed
 use Rattle.cases.specs.declared.command.PathRule.{PathRule}
 use Rattle.cases.specs.declared.command.PathRule.the-variants.{Union}
 use Rattle.cases.specs.declared.command.ShapeRule.{ShapeRule}
-use Rattle.cases.specs.declared.faults.Step.{Step}
-use Rattle.cases.specs.declared.faults.Step.the-variants.{Is, Refused}
+use Rattle.cases.specs.declared.answers.Step.the-variants.{Is}
+use Rattle.cases.specs.declared.answers.Taken.{Taken}
 use Rattle.cases.specs.Case.{Case, emptyCase, countsOf, pathRule, references}
-use Rattle.cases.specs.Format.{groupOf, widthOf, rowOf, edgeOf, pathRuleOf, shapeRuleOf, targetOf, commandOf, commandAt}
-use Rattle.cases.specs.Reading.{nodeLimit, edgeLimit, pathLimit, shapeLimit, targetLimit}
+use Rattle.cases.specs.Counts.{nodeLimit, edgeLimit, pathLimit, shapeLimit, targetLimit}
+use Rattle.cases.specs.Format.{groupOf, takenOf, rowOf, edgeOf, pathRuleOf, shapeRuleOf, targetOf, commandOf, commandAt}
 use Rattle.cases.specs.Reading.{inOrder, withinLimit, shapeNodesKnown, nodesKnown, pathPathsEarlier, shapePathsEarlier, pathsEarlier}
 use Rattle.cases.specs.Reading.{shapeLeastPositive, leastPositive, stepAt, Named, Progress, start, add, shapesNamed, namedAt, pass}
-use Rattle.cases.specs.Reading.{unknownShape, afterEnd, refused, finish, isEnd, walk, outcome}
-use Rattle.cases.proofs.Walking.{step-shows}
-use Rattle.cases.specs.Sound.{Sound}
-
--- by cases on a test
-split : {A : Type 0} (b : Bool) → (b ≡ true → A) → (b ≡ false → A) → A
-split true f g = f refl
-split false f g = g refl
+use Rattle.cases.specs.Reading.{unknownShape, afterEnd, refused, finish, isEnd, stepped, walk, outcome}
+use Rattle.cases.specs.Sound.{Sound, Limited}
+use Rattle.cases.proofs.Steps.{step-shows, step-cases}
 
 -- ---- What a case keeps as it grows: refusals 4 to 7, list by list
 
@@ -130,17 +124,22 @@ named-more n c (ShapeCommand r) h o = (all-snoc (c .shapes) r (λ r. below n (re
 named-more n c (TargetCommand t) h o = (o .0, all-snoc (c .targets) t (λ t. ltb (t .shape .0) n) (o .1) (sym (and-true (ltb (t .shape .0) n)) ∙ h))
 named-more n c End h o = o
 
-sound : (c : Case) → CaseKept c → CaseNamed (length (c .shapes)) c → Sound c
-unfolding CaseNamed below edgeSound shapeSound targetSound pathRule
-sound c k o =
-    let known = all-and (c .shapes) (shapeNodesKnown (c .nodes)) (λ r. shapePathsEarlier (length (c .paths)) r && shapeLeastPositive r) (k .shapes .passed) in
-    let others = all-and (c .shapes) (shapePathsEarlier (length (c .paths))) shapeLeastPositive (known .1) in
+limited : (c : Case) → CaseKept c → Limited c
+limited c k =
     record {
       nodes-limited = k .nodes;
       edges-limited = k .edges .limited;
       paths-limited = k .paths .limited;
       shapes-limited = k .shapes .limited;
       targets-limited = k .targets .limited;
+    }
+
+sound : (c : Case) → CaseKept c → CaseNamed (length (c .shapes)) c → Sound c
+unfolding CaseNamed below edgeSound shapeSound targetSound pathRule
+sound c k o =
+    let known = all-and (c .shapes) (shapeNodesKnown (c .nodes)) (λ r. shapePathsEarlier (length (c .paths)) r && shapeLeastPositive r) (k .shapes .passed) in
+    let others = all-and (c .shapes) (shapePathsEarlier (length (c .paths))) shapeLeastPositive (known .1) in
+    record {
       edges-known = k .edges .passed;
       shapes-known = known .0;
       targets-known = k .targets .passed;
@@ -155,7 +154,7 @@ sound c k o =
 
 -- Two numbers are what others are tested against: of the nodes, and of the paths. The order lets the one change only while the case is
 -- empty, and the other only while there are no shapes; so what was tested once stays so.
-record Going (p : Progress) : Type 0 where
+record SoundSoFar (p : Progress) : Type 0 where
   kept : CaseKept (p .case)
   named : (n : ℕ) → all (p .named) (λ r. ltb (r .shape) n) ≡ true → CaseNamed n (p .case)
   unbegun : p .last ≡ 0 → p .case ≡ emptyCase
@@ -171,7 +170,7 @@ ofGroup g (TargetCommand t) = true
 ofGroup g End = true
 
 -- what a command without a fault has passed
-record Checked (p : Progress) (g : ℕ) (command : Command) : Type 0 where
+record Judged (p : Progress) (g : ℕ) (command : Command) : Type 0 where
   known : ltb 0 g ≡ true
   grouped : ofGroup g command ≡ true
   ordered : inOrder (p .last) g ≡ true
@@ -181,16 +180,16 @@ record Checked (p : Progress) (g : ℕ) (command : Command) : Type 0 where
   least : leastPositive command ≡ true
 
 order-first : (last : ℕ) → inOrder last 1 ≡ true → last ≡ 0
-order-first last h = split (eqb last 0) (λ e. eqb-true last 0 e) (λ e. absurd (false≢true (rw e at h)))
+order-first last h = by-test (eqb last 0) (λ e. eqb-true last 0 e) (λ e. absurd (false≢true (rw e at h)))
 
 order-ascends : (last g : ℕ) → inOrder last g ≡ true → last ≤ g
 order-ascends last g h =
-    split (eqb last 0)
+    by-test (eqb last 0)
     (λ e. omega (arith, eqb-true))
-    (λ e. split (eqb g 1) (λ f. absurd (false≢true (rw (e, f) at h))) (λ f. leb-true last g (rw (e, f) at h)))
+    (λ e. by-test (eqb g 1) (λ f. absurd (false≢true (rw (e, f) at h))) (λ f. leb-true last g (rw (e, f) at h)))
 
 -- the invariant after one command more: the case, its shapes, and all of it
-kept-pass : (p : Progress) (g : ℕ) (command : Command) → Going p → Checked p g command → CaseKept (add (p .case) command)
+kept-pass : (p : Progress) (g : ℕ) (command : Command) → SoundSoFar p → Judged p g command → CaseKept (add (p .case) command)
 unfolding countsOf ofGroup add edgeSound shapeSound targetSound
 kept-pass p g (Nodes n) k h =
     let first : p .last ≡ 0 = order-first (p .last) (rw (eqb-true g 1 (h .grouped)) at (h .ordered)) in
@@ -210,7 +209,7 @@ kept-pass p g (TargetCommand t) k h =
     record { nodes = o .nodes; edges = o .edges; paths = o .paths; shapes = o .shapes; targets = kept-more t (o .targets) (h .limit) (h .nodes) }
 kept-pass p g End k h = k .kept
 
-unshaped-pass : (p : Progress) (g : ℕ) (command : Command) → Going p → Checked p g command → g ≤ 3 → add (p .case) command .shapes ≡ []
+unshaped-pass : (p : Progress) (g : ℕ) (command : Command) → SoundSoFar p → Judged p g command → g ≤ 3 → add (p .case) command .shapes ≡ []
 unfolding add ofGroup
 unshaped-pass p g command k h b = go command (h .grouped) (k .unshaped (omega (arith, order-ascends (p .last) g (h .ordered))))
   where
@@ -222,7 +221,7 @@ unshaped-pass p g command k h b = go command (h .grouped) (k .unshaped (omega (a
     go (TargetCommand t) q e = e
     go End q e = e
 
-going-pass : (p : Progress) (at g : ℕ) (command : Command) → Going p → Checked p g command → Going (pass p at g command)
+going-pass : (p : Progress) (at g : ℕ) (command : Command) → SoundSoFar p → Judged p g command → SoundSoFar (pass p at g command)
 unfolding pass namedAt below
 going-pass p at g command k h =
     record {
@@ -250,77 +249,84 @@ commandOf-group g r =
     (choose 5 (TargetCommand (targetOf r)) End (λ e. refl) refl))))
   where
     choose : (n : ℕ) (c o : Command) → (eqb g n ≡ true → ofGroup g c ≡ true) → ofGroup g o ≡ true → ofGroup g (cond (eqb g n) c o) ≡ true
-    choose n c o f e = split (eqb g n) (λ h. rw h (f h)) (λ h. rw h e)
+    choose n c o f e = by-test (eqb g n) (λ h. rw h (f h)) (λ h. rw h e)
 
-read-checked :
-    (s : List ℕ) (at : ℕ) (p : Progress) (command : Command) (r : Row)
-    → stepAt (p .last) (countsOf (p .case)) (drop at s) ≡ Is command r → Checked p (groupOf (getD s at 0)) command
-unfolding commandAt
-read-checked s at p command r h =
+read-checked : (s : List ℕ) (at : ℕ) (p : Progress) (command : Command) (r : Row) (taken : Taken)
+    → stepAt (p .last) (p .case) (drop at s) ≡ Is command r taken → Judged p (taken .group) command
+unfolding commandAt takenOf
+read-checked s at p command r taken h =
     let part = drop at s in
-    let m = step-shows (p .last) (countsOf (p .case)) part command r h in
-    let t : Checked p (groupOf (getD part 0 0)) command =
-    record {
+    let m = step-shows (p .last) (p .case) part command r taken h in
+    rw (m .taken-is) (record {
       known = m .known;
-      grouped = rw (m .read-there) (commandOf-group (groupOf (getD part 0 0)) (rowOf part));
+      grouped = rw (m .command-is) (commandOf-group (groupOf (getD part 0 0)) (rowOf part));
       ordered = m .ordered;
       limit = m .within;
       nodes = m .nodes-known;
       paths = m .paths-earlier;
       least = m .least-positive;
-    } in
-    rw (getD-drop at s 0 0 ∙ ap (λ i. getD s i 0) (add-zero at)) at t
-
-step-cases : (o : Step) → ((n : ℕ) × (o ≡ Refused n)) ⊎ ((c : Command) × (r : Row) × (o ≡ Is c r))
-step-cases (Refused n) = inl (n, refl)
-step-cases (Is c r) = inr (c, r, refl)
+    })
 
 -- ---- The walk: a refusal gives the empty case, and the end the case so far, all of whose shape operands are known by then
 
-empty-sound : Sound emptyCase
+-- what is promised of a case
+pub record Fitting (c : Case) : Type 0 where
+  pub sound : Sound c
+  pub limited : Limited c
+
+empty-fitting : Fitting emptyCase
 unfolding CaseNamed emptyCase add all
-empty-sound = sound emptyCase (unbegun-kept 0 (omega arith)) (refl, refl)
+empty-fitting = let k = unbegun-kept 0 (omega arith) in record { sound = sound emptyCase k (refl, refl); limited = limited emptyCase k }
 
 unknownShape-none : (n : ℕ) (l : List Named) → unknownShape n l .number ≡ 0 → all l (λ r. ltb (r .shape) n) ≡ true
 unfolding unknownShape all
 unknownShape-none n [] h = refl
 unknownShape-none n (r ∷ l) h =
-    split (ltb (r .shape) n)
+    by-test (ltb (r .shape) n)
     (λ e. rw e (unknownShape-none n l (rw e at h)))
     (λ e. absurd (let z : _≡_ {A = ℕ} 9 0 = rw e at h in omega arith))
 
 afterEnd-none : (s : List ℕ) (end : ℕ) (p : Progress) → afterEnd s end p .number ≡ 0 → unknownShape (length (p .case .shapes)) (p .named) .number ≡ 0
 unfolding afterEnd
 afterEnd-none s end p h =
-    split (ltb end (length s)) (λ e. absurd (let z : _≡_ {A = ℕ} 8 0 = rw e at h in omega arith)) (λ e. rw e at h)
+    by-test (ltb end (length s)) (λ e. absurd (let z : _≡_ {A = ℕ} 8 0 = rw e at h in omega arith)) (λ e. rw e at h)
 
-finish-sound : (s : List ℕ) (end : ℕ) (p : Progress) → Going p → Sound (finish s end p .case)
+finish-fitting : (s : List ℕ) (end : ℕ) (p : Progress) → SoundSoFar p → Fitting (finish s end p .case)
 unfolding finish
-finish-sound s end p k =
+finish-fitting s end p k =
     let n = length (p .case .shapes) in
-    split (eqb (afterEnd s end p .number) 0)
-    (λ e. rw e (sound (p .case) (k .kept) (k .named n (unknownShape-none n (p .named) (afterEnd-none s end p (eqb-true (afterEnd s end p .number) 0 e))))))
-    (λ e. rw e empty-sound)
+    by-test (eqb (afterEnd s end p .number) 0)
+    (λ e. rw e (record {
+      sound = sound (p .case) (k .kept) (k .named n (unknownShape-none n (p .named) (afterEnd-none s end p (eqb-true (afterEnd s end p .number) 0 e))));
+      limited = limited (p .case) (k .kept);
+    }))
+    (λ e. rw e empty-fitting)
 
-start-going : Going start
+start-going : SoundSoFar start
 unfolding start emptyCase CaseNamed add all
 start-going = record { kept = unbegun-kept 0 (omega arith); named = λ n h. (refl, refl); unbegun = λ e. refl; unshaped = λ h. refl }
 
-walk-sound : (fuel : ℕ) (s : List ℕ) (at : ℕ) (p : Progress) → Going p → Sound (walk fuel s at p .case)
-unfolding walk refused
-walk-sound zero s at p k = empty-sound
-walk-sound (suc fuel) s at p k =
-    split (ltb at (length s))
+walk-fitting : (fuel : ℕ) (s : List ℕ) (at : ℕ) (p : Progress) → SoundSoFar p → Fitting (walk fuel s at p .case)
+unfolding walk stepped refused
+walk-fitting zero s at p k = empty-fitting
+walk-fitting (suc fuel) s at p k =
+    by-test (ltb at (length s))
     (λ e. rw (e, walk)
     (⊎-elim
-    (λ o. rw (o .1) empty-sound)
-    (λ o. rw (o .2)
-    (split (isEnd (o .0))
-    (λ f. rw f (finish-sound s (at + 1) p k))
-    (λ f. rw f (walk-sound fuel s (at + widthOf (getD s at 0)) _ (going-pass p at (groupOf (getD s at 0)) (o .0) k (read-checked s at p (o .0) (o .1) (o .2)))))))
-    (step-cases (stepAt (p .last) (countsOf (p .case)) (drop at s)))))
-    (λ e. rw (e, walk) empty-sound)
+    (λ o. rw (o .1) empty-fitting)
+    (λ o. rw (o .is)
+    (by-test (isEnd (o .command))
+    (λ f. rw f (finish-fitting s (at + 1) p k))
+    (λ f. rw f (walk-fitting fuel s _ _ (going-pass p at (o .taken .group) (o .command) k (read-checked s at p (o .command) (o .row) (o .taken) (o .is)))))))
+    (step-cases (stepAt (p .last) (p .case) (drop at s)))))
+    (λ e. rw (e, walk) empty-fitting)
+
+outcome-fitting : (s : List ℕ) → Fitting (outcome s .case)
+unfolding outcome
+outcome-fitting s = walk-fitting (suc (length s)) s 0 start start-going
 
 pub outcome-sound : (s : List ℕ) → Sound (outcome s .case)
-unfolding outcome
-outcome-sound s = walk-sound (suc (length s)) s 0 start start-going
+outcome-sound s = outcome-fitting s .sound
+
+pub outcome-limited : (s : List ℕ) → Limited (outcome s .case)
+outcome-limited s = outcome-fitting s .limited

@@ -8,7 +8,7 @@ use Rattle.cases.specs.declared.command.PathRule.{PathRule}
 use Rattle.cases.specs.declared.command.PathRule.the-variants.{Forward, Backward, Union, Sequence, Star}
 use Rattle.cases.specs.declared.command.ShapeRule.{ShapeRule}
 use Rattle.cases.specs.declared.command.ShapeRule.the-variants.{Top, Node, And, Or, Not, Same, All, AtLeast}
-use Rattle.cases.specs.declared.faults.Counts.{Counts}
+use Rattle.cases.specs.declared.counts.Counts.{Counts}
 
 -- nodes, paths and shapes are numbered from 0 as they come; repeated edges and targets are kept
 pub record Case : Type 0 where

@@ -1,8 +1,8 @@
 -- The format: command bytes, operand widths, and the command that a part of the input starts with.
 -- Document 01, "A case, command by command". Assumes nothing.
 use Prim.Native.Nat.{ℕ, _+_, _*_}
-use mathlib.Core.Bool.{Bool, true, false, cond}
-use mathlib.Core.List.{List, [], _∷_}
+use mathlib.Core.Bool.{Bool, cond}
+use mathlib.Core.List.{List}
 use lib.ListN.{length, getD}
 use lib.Dec.{eqb, leb}
 use Rattle.cases.specs.declared.command.Edge.{Edge}
@@ -15,6 +15,7 @@ use Rattle.cases.specs.declared.command.PathRule.{PathRule}
 use Rattle.cases.specs.declared.command.PathRule.the-variants.{Forward, Backward, Union, Sequence, Star}
 use Rattle.cases.specs.declared.command.ShapeRule.{ShapeRule}
 use Rattle.cases.specs.declared.command.ShapeRule.the-variants.{Top, Node, And, Or, Not, Same, All, AtLeast}
+use Rattle.cases.specs.declared.answers.Taken.{Taken}
 use Rattle.cases.specs.declared.format.Format.{Format}
 use Rattle.cases.specs.declared.format.Operands.{Operands}
 use Rattle.cases.specs.declared.format.Operands.the-variants.{Complete, Cut}
@@ -49,6 +50,9 @@ groupOf b = formatOf b .0
 unfoldable pub widthOf : ℕ → ℕ
 widthOf b = 1 + formatOf b .1 + formatOf b .2 + formatOf b .3
 
+unfoldable pub takenOf : ℕ → Taken
+takenOf b = record { group = groupOf b; width = widthOf b }
+
 -- an operand: no byte, one byte, or two bytes, low byte first
 unfoldable pub numberAt : List ℕ → ℕ → ℕ → ℕ
 numberAt s at width =
@@ -72,6 +76,11 @@ complete s = leb (widthOf (getD s 0 0)) (length s)
 -- what the operand reader answers
 unfoldable pub operandsOf : List ℕ → Operands
 operandsOf s = cond (complete s) (Complete (rowOf s)) Cut
+
+-- the number of each of its answers: 3 where the input ends before the operands are complete
+abbrev pub missing : Operands → ℕ
+missing (Complete row) = 0
+missing Cut = 3
 
 -- the meaning of a row, group by group
 abbrev pub edgeOf : Row → Edge

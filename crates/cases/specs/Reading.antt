@@ -13,32 +13,17 @@ use Rattle.cases.specs.declared.command.PathRule.{PathRule}
 use Rattle.cases.specs.declared.command.ShapeRule.{ShapeRule}
 use Rattle.cases.specs.declared.command.ShapeRule.the-variants.{Top, Node, And, Or, Not, Same, All, AtLeast}
 use Rattle.cases.specs.declared.command.Row.{Row}
-use Rattle.cases.specs.declared.faults.Counts.{Counts}
-use Rattle.cases.specs.declared.faults.Step.{Step}
-use Rattle.cases.specs.declared.faults.Step.the-variants.{Is, Refused}
-use Rattle.cases.specs.declared.reading.Reading.{Reading}
-use Rattle.cases.specs.declared.reading.Refusal.{Refusal}
+use Rattle.cases.specs.declared.counts.Counts.{Counts}
+use Rattle.cases.specs.declared.answers.Reading.{Reading}
+use Rattle.cases.specs.declared.answers.Refusal.{Refusal}
+use Rattle.cases.specs.declared.answers.Step.{Step}
+use Rattle.cases.specs.declared.answers.Step.the-variants.{Is, Refused}
+use Rattle.cases.specs.declared.answers.Taken.{Taken}
 use Rattle.cases.specs.Case.{Case, emptyCase, countsOf, pathsOfPath, pathsOfShape, references}
-use Rattle.cases.specs.Format.{groupOf, widthOf, rowOf, complete, commandAt}
+use Rattle.cases.specs.Counts.{nodeLimit, edgeLimit, pathLimit, shapeLimit, targetLimit}
+use Rattle.cases.specs.Format.{groupOf, takenOf, rowOf, operandsOf, missing, commandAt}
 
--- ---- The limits
-
-abbrev pub nodeLimit : ℕ
-nodeLimit = 128
-
-abbrev pub edgeLimit : ℕ
-edgeLimit = 1024
-
-abbrev pub pathLimit : ℕ
-pathLimit = 16
-
-abbrev pub shapeLimit : ℕ
-shapeLimit = 32
-
-abbrev pub targetLimit : ℕ
-targetLimit = 256
-
--- ---- Refusals 1 to 7: the faults of one command, judged by what stands before it
+-- ---- Refusals 1 to 7: the faults of one command, judged by what has been read before it
 
 -- one 01 first, then edges, paths, shapes, targets, one FF last: last is the group of the command before, 0 at the start
 abbrev pub inOrder : ℕ → ℕ → Bool
@@ -110,31 +95,33 @@ leastPositive End = true
 abbrev pub unless : Bool → ℕ → Step → Step
 unless ok number rest = cond ok rest (Refused number)
 
-unfoldable pub judged : Counts → Command → Row → Step
-judged k command row =
-    unless (withinLimit k command) 4
-    (unless (nodesKnown k command) 5
-    (unless (pathsEarlier k command) 6
+-- 4 to 7, for a command that is whole
+unfoldable pub judged : Case → Command → Row → Taken → Step
+judged c command row taken =
+    unless (withinLimit (countsOf c) command) 4
+    (unless (nodesKnown (countsOf c) command) 5
+    (unless (pathsEarlier (countsOf c) command) 6
     (unless (leastPositive command) 7
-    (Is command row))))
+    (Is command row taken))))
 
--- what is read where a part of the input starts: a command, or the first refusal of 1 to 7
-unfoldable pub stepAt : ℕ → Counts → List ℕ → Step
-stepAt last k s =
+-- what is read where a part of the input starts, after a command of the group `last` and with the case so far: a command, or the first
+-- refusal of 1 to 7
+unfoldable pub stepAt : ℕ → Case → List ℕ → Step
+stepAt last c s =
     unless (ltb 0 (groupOf (getD s 0 0))) 1
     (unless (inOrder last (groupOf (getD s 0 0))) 2
-    (unless (complete s) 3
-    (judged k (commandAt s) (rowOf s))))
+    (unless (eqb (missing (operandsOf s)) 0) (missing (operandsOf s))
+    (judged c (commandAt s) (rowOf s) (takenOf (getD s 0 0)))))
 
--- the number of each answer
+-- the number of each of these answers
 abbrev pub numberOf : Step → ℕ
-numberOf (Is command row) = 0
+numberOf (Is command row taken) = 0
 numberOf (Refused n) = n
 
 -- ---- The walk over the input
 
 -- a refusal is document 01's number and the place; the number 0 stands for none
-unfoldable pub noRefusal : Refusal
+abbrev pub noRefusal : Refusal
 noRefusal = record { number = 0; place = 0 }
 
 -- a shape operand and the offset of its command
@@ -214,27 +201,26 @@ isEnd (ShapeCommand r) = false
 isEnd (TargetCommand t) = false
 isEnd End = true
 
+-- what a step comes to: its refusal, the end, or what follows it, which the first argument says
+unfoldable pub stepped : (ℕ → Progress → Outcome) → List ℕ → ℕ → Progress → Step → Outcome
+stepped onward s at p (Refused n) = refused (numberOf (Refused n)) at
+stepped onward s at p (Is command row taken) =
+    cond (isEnd command) (finish s (at + 1) p) (onward (at + taken .width) (pass p at (taken .group) command))
+
 -- from an offset on: 3 where the input ends, else the first command at fault decides, else on to the next command or the end.
 -- The fuel is above the bytes left, of which each command takes one at least
 unfoldable pub walk : ℕ → List ℕ → ℕ → Progress → Outcome
 walk zero s at p = refused 3 at
 walk (suc fuel) s at p =
-    elim (ltb at (length s)) [
-      | false ↦ refused 3 at
-      | true ↦
-          elim (stepAt (p .last) (countsOf (p .case)) (drop at s)) [
-            | Refused number ↦ refused number at
-            | Is command row ↦
-                elim (isEnd command) [
-                  | true ↦ finish s (at + 1) p
-                  | false ↦ walk fuel s (at + widthOf (getD s at 0)) (pass p at (groupOf (getD s at 0)) command)
-                ]
-          ]
-    ]
+    cond (ltb at (length s)) (stepped (walk fuel s) s at p (stepAt (p .last) (p .case) (drop at s))) (refused 3 at)
 
 -- a byte string's case, or its refusal
 unfoldable pub outcome : List ℕ → Outcome
 outcome s = walk (suc (length s)) s 0 start
+
+-- reading's numbers: 0 for none, 1 to 9
+abbrev pub isReadingNumber : ℕ → Bool
+isReadingNumber n = leb n 9
 
 -- ---- What reading answers: number, place, and the counts, all 0 on a refusal
 

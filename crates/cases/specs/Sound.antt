@@ -2,20 +2,16 @@
 -- read as facts about the case. Assumes nothing.
 use Prim.Native.Nat.{ℕ, _≤_, _<_}
 use mathlib.Core.Path.{_≡_}
-use mathlib.Core.Bool.{Bool, true, _&&_}
+use mathlib.Core.Bool.{true, _&&_}
 use lib.ListN.{length}
 use lib.Dec.{ltb}
 use Rattle.fixpoint.specs.Lists.{all}
 use Rattle.cases.specs.Case.{Case, references, pathRule}
-use Rattle.cases.specs.Reading.{nodeLimit, edgeLimit, pathLimit, shapeLimit, targetLimit, shapeNodesKnown, pathPathsEarlier, shapePathsEarlier, shapeLeastPositive}
+use Rattle.cases.specs.Counts.{nodeLimit, edgeLimit, pathLimit, shapeLimit, targetLimit}
+use Rattle.cases.specs.Reading.{shapeNodesKnown, pathPathsEarlier, shapePathsEarlier, shapeLeastPositive}
 
+-- operands name what is there
 pub record Sound (c : Case) : Type 0 where
-  -- 4
-  pub nodes-limited : c .nodes ≤ nodeLimit
-  pub edges-limited : length (c .edges) ≤ edgeLimit
-  pub paths-limited : length (c .paths) ≤ pathLimit
-  pub shapes-limited : length (c .shapes) ≤ shapeLimit
-  pub targets-limited : length (c .targets) ≤ targetLimit
   -- 5
   pub edges-known : all (c .edges) (λ e. ltb (e .subject .0) (c .nodes) && ltb (e .object .0) (c .nodes)) ≡ true
   pub shapes-known : all (c .shapes) (shapeNodesKnown (c .nodes)) ≡ true
@@ -28,3 +24,11 @@ pub record Sound (c : Case) : Type 0 where
   -- 9
   pub shapes-named : all (c .shapes) (λ r. all (references r) (λ s. ltb s (length (c .shapes)))) ≡ true
   pub targets-named : all (c .targets) (λ t. ltb (t .shape .0) (length (c .shapes))) ≡ true
+
+-- 4: the limits are kept
+pub record Limited (c : Case) : Type 0 where
+  pub nodes-limited : c .nodes ≤ nodeLimit
+  pub edges-limited : length (c .edges) ≤ edgeLimit
+  pub paths-limited : length (c .paths) ≤ pathLimit
+  pub shapes-limited : length (c .shapes) ≤ shapeLimit
+  pub targets-limited : length (c .targets) ≤ targetLimit

@@ -1,9 +1,10 @@
 // The format: which bytes are commands, how wide their operands are, and reading a command's operands.
+use crate::answers::Taken;
 use crate::command::Row;
 ghost use mathlib.Core.Path.{_≡_};
 ghost use Prim.Native.Nat.{_+_, _≤_, _<_};
-ghost use lib.ListN.{length, getD};
-ghost use Rattle.cases.specs.Format.{formatOf, widthOf, numberAt, operandsOf};
+ghost use lib.ListN.{length};
+ghost use Rattle.cases.specs.Format.{formatOf, takenOf, numberAt, operandsOf, missing};
 
 // A command byte's group, 0 for an unknown byte, and the widths of its operands in bytes.
 pub struct Format(pub usize, pub u8, pub u8, pub u8);
@@ -33,12 +34,15 @@ pub fn format_of(code: u8) -> Format
     }
 }
 
-// The bytes that a command takes: its own and its operands'.
-pub fn width_of(code: u8) -> usize
-    ensures { λ r. ⌜ r ≡ widthOf code ⌝ }
+// What a command takes: its byte and its operands.
+pub fn taken_of(code: u8) -> Taken
+    ensures { λ r. ⌜ r ≡ takenOf code ⌝ }
 {
     let f = format_of(code);
-    1 + f.1 as usize + f.2 as usize + f.3 as usize
+    Taken {
+        group: f.0,
+        width: 1 + f.1 as usize + f.2 as usize + f.3 as usize,
+    }
 }
 
 // The number of `width` bytes at `at`, low byte first.
@@ -60,6 +64,16 @@ fn number_at(part: &[u8], at: usize, width: u8) -> u16
 pub enum Operands {
     Complete(Row),
     Cut,
+}
+
+// The number of a refusal, 0 for operands that are complete.
+pub fn missing_number(operands: Operands) -> usize
+    ensures { λ r. ⌜ r ≡ missing operands ⌝ }
+{
+    match operands {
+        Operands::Complete(_) => 0,
+        Operands::Cut => 3,
+    }
 }
 
 // Reads the operands of the command that `part` starts with.

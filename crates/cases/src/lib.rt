@@ -1,7 +1,10 @@
-// A case: the numbers and commands that it is made of, and reading it from bytes into tables.
+// A case: the numbers and commands that it is made of, its format, its counts, the table of rows that holds it, and what reading answers.
+// Definitions of document 01's section "A case, command by command" and of reading are in specs/; the crate reader reads by them.
+pub mod answers;
 pub mod command;
-pub mod faults;
+pub mod counts;
 pub mod format;
 pub mod numbers;
-pub mod reading;
-pub mod tables;
+pub mod paths;
+pub mod references;
+pub mod rows;

@@ -1,4 +1,6 @@
--- The laws of checking: sets of pairs in tables, the first fault, and what one pair's tests say.
-pub mod Lower
-pub mod First
-pub mod Judging
+-- The laws of sets by value and level, of supported and of justified pairs.
+pub mod Lowered
+pub mod Raised
+pub mod Supported
+pub mod Justified
+pub mod Checked

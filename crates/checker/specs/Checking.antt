@@ -1,106 +1,77 @@
--- What checking answers for a case in tables, and what its parts ask and leave. A set of pairs is a table of words, row s the nodes of
--- shape s. Assumes nothing.
+-- What checking answers for the case in the tables: 13, 14 and 15, pair by pair. Assumes nothing.
 use Prim.Native.Nat.{ℕ, _+_, _*_, _<_, _≤_}
 use mathlib.Core.Path.{_≡_}
-use mathlib.Core.Bool.{Bool, true, cond, _&&_}
+use mathlib.Core.Bool.{Bool, true}
 use mathlib.Core.List.{List}
 use lib.ListN.{length, getD}
-use lib.Dec.{eqb, leb, ltb}
-use Rattle.fixpoint.specs.Lists.{any}
+use lib.Dec.{eqb, leb}
 use Rattle.bitset.specs.Words.{member}
-use Rattle.cases.specs.Case.{Case, references}
+use Rattle.cases.specs.Case.{Case, references, pathsOfShape}
+use Rattle.cases.specs.Reading.{shapeLeastPositive}
+use Rattle.cases.specs.Rows.{caseIn}
 use Rattle.cases.specs.declared.command.ShapeRule.{ShapeRule}
-use Rattle.cases.specs.declared.faults.Counts.{Counts}
-use Rattle.cases.specs.declared.reading.Refusal.{Refusal}
-use Rattle.fillers.specs.Fillers.{LiveIn}
-use Rattle.rules.specs.CaseTables.{TablesOf}
+use Rattle.cases.specs.declared.counts.Counts.{Counts}
+use Rattle.cases.specs.declared.counts.Size.{Size}
+use Rattle.cases.specs.declared.answers.Refusal.{Refusal}
+use Rattle.fixpoint.specs.Lists.{any, upTo}
 use Rattle.rules.specs.Kernel.{KernelOf}
-use Rattle.semantics.specs.Paths.{live}
-use Rattle.semantics.specs.Values.{pairCount, supportedAt}
-use Rattle.semantics.specs.Levels.{justifiedAt}
-use Rattle.semantics.specs.Stability.{holds}
-use Rattle.semantics.specs.Denial.{nots}
-use Rattle.semantics.specs.Operations.{orElse, refuseUnless, levelsIn, valueFault, pairFault}
+use Rattle.semantics.specs.Levels.{supportBelow, justifiedAt}
+use Rattle.semantics.specs.Operations.{firstOf, refuse, refuseUnless, levelsIn}
+use Rattle.semantics.specs.Values.{pairCount, entryAt, ruleValue, byteSays, saidNumber, supportedAt}
+use Rattle.checker.specs.Sets.{levelAt, Threshold, Proposed, LevelRow, RowBelow}
 
--- ---- Checking as a whole
+-- 13: the first of so many pairs whose byte says no value
+abbrev pub valueFaultIn : List ℕ → ℕ → Refusal
+valueFaultIn values pairs = firstOf (upTo pairs) (λ k. refuse (saidNumber (byteSays (getD values k 0))) k)
 
--- the lent tables have the pairs, and rows for the shapes
-pub record CheckRoom (k : Counts) (w : ℕ) (values levels valid possible lower : List ℕ) : Type 0 where
-  pub values-there : k .shapes * k .nodes ≤ length values
-  pub levels-there : 2 * (k .shapes * k .nodes) ≤ length levels
-  pub valid-there : k .shapes * w ≤ length valid
-  pub possible-there : k .shapes * w ≤ length possible
-  pub lower-there : k .shapes * w ≤ length lower
+-- ---- 14: the first pair that is not supported
 
--- the answer is the first fault of the case in the tables: 13, then pair by pair 14 and 15
-pub record PairsChecked (k : Counts) (w : ℕ) (shapes alive t values levels : List ℕ) (r : Refusal) : Type 0 where
-  pub right : (c : Case) → TablesOf c k w shapes alive t → r ≡ orElse (valueFault c values) (pairFault c values (levelsIn (pairCount c) levels))
+abbrev pub supportFault : Case → List ℕ → Refusal
+supportFault c values = firstOf (upTo (pairCount c)) (λ k. refuseUnless (supportedAt c values k) 14 k)
 
--- ---- Sets of pairs by value and level
+-- the values and sets have what the rule reads, and agree there; a least number is not 0
+pub record ValuesFit (r : ShapeRule) (size : Size) (values valid possible : List ℕ) : Type 0 where
+  pub positive : shapeLeastPositive r ≡ true
+  pub there : (s a : ℕ) → any (references r) (λ q. eqb q s) ≡ true → a < size .nodes → s * size .nodes + a < length values
+  pub small : (s a : ℕ) → any (references r) (λ q. eqb q s) ≡ true → a < size .nodes → getD values (s * size .nodes + a) 0 ≤ 2
+  pub valid-at : (s a : ℕ) → any (references r) (λ q. eqb q s) ≡ true → a < size .nodes → member valid (size .words) s a ≡ leb 2 (getD values (s * size .nodes + a) 0)
+  pub possible-at : (s a : ℕ) → any (references r) (λ q. eqb q s) ≡ true → a < size .nodes → member possible (size .words) s a ≡ leb 1 (getD values (s * size .nodes + a) 0)
 
--- the level of pair k: two bytes, low first
-unfoldable pub levelAt : List ℕ → ℕ → ℕ
-levelAt levels k = getD levels (2 * k) 0 + 256 * getD levels (2 * k + 1) 0
+-- the rule's value at a node, in every case with these fillers
+pub record RuleGives (r : ShapeRule) (a : ℕ) (size : Size) (sets values : List ℕ) (value : ℕ) : Type 0 where
+  pub right : (c : Case) → KernelOf c r size sets → value ≡ ruleValue c (entryAt c values) r a
 
--- the pairs of at least a value, with levels below a bound
-unfoldable pub lowerSet : List ℕ → List ℕ → ℕ → ℕ → ℕ → ℕ → ℕ → Bool
-lowerSet values levels n value bound s a = leb value (getD values (s * n + a) 0) && ltb (levelAt levels (s * n + a)) bound
+-- ---- 15: the first of some supported pairs that is not justified
 
-pub record Room (k : Counts) (w : ℕ) (values levels table : List ℕ) : Type 0 where
-  pub wide : k .nodes ≤ 64 * w
-  pub values-there : k .shapes * k .nodes ≤ length values
-  pub levels-there : 2 * (k .shapes * k .nodes) ≤ length levels
-  pub rows-there : k .shapes * w ≤ length table
+-- pair k is justified
+abbrev pub justifiedIn : Counts → List ℕ → List ℕ → List ℕ → ℕ → Bool
+justifiedIn counts rows values levels k = justifiedAt (caseIn counts rows) values (levelsIn (pairCount (caseIn counts rows)) levels) k
 
--- the table's pairs at the first n nodes are in the set
-pub record Inside (S : ℕ → ℕ → Bool) (n w : ℕ) (t : List ℕ) : Type 0 where
-  pub each : (s a : ℕ) → a < n → member t w s a ≡ true → S s a ≡ true
+-- the levels that the rule reads are there, and the fillers that it reads are nodes
+pub record LevelsFit (r : ShapeRule) (size : Size) (sets levels : List ℕ) : Type 0 where
+  pub levels-there : (s : ℕ) → any (references r) (λ q. eqb q s) ≡ true → LevelRow levels size s
+  pub fillers-below : (p a : ℕ) → any (pathsOfShape r) (λ q. eqb q p) ≡ true → a < size .nodes → RowBelow sets (1 + p * size .nodes + a) size
 
--- the set's pairs of shape s, at nodes from lo to hi, were added, and nothing outside the set
-pub record Added (S : ℕ → ℕ → Bool) (n w s lo hi : ℕ) (t t′ : List ℕ) : Type 0 where
-  pub done : (a : ℕ) → lo ≤ a → a < hi → S s a ≡ true → member t′ w s a ≡ true
-  pub kept : (q a : ℕ) → a < n → member t w q a ≡ true → member t′ w q a ≡ true
-  pub inside : Inside S n w t → Inside S n w t′
-  pub long : length t′ ≡ length t
+-- the support is below the bound, by the tests
+pub record SupportBelow (r : ShapeRule) (a : ℕ) (size : Size) (sets set levels : List ℕ) (bound : ℕ) (answer : Bool) : Type 0 where
+  pub right : (c : Case) → KernelOf c r size sets → answer ≡ supportBelow c (member set (size .words)) (λ s b. levelAt levels (s * size .nodes + b)) bound r a
 
--- the rule's references are among so many shapes
-pub record Named (r : ShapeRule) (shapes : ℕ) : Type 0 where
-  pub below : (s : ℕ) → any (references r) (λ q. eqb q s) ≡ true → s < shapes
+-- the answer for pair k, supported and of a value that is not 0, with values of which this is the set of those at least as large
+pub record LevelSuffices (counts : Counts) (rows set levels : List ℕ) (k : ℕ) (answer : Bool) : Type 0 where
+  pub right : (values : List ℕ) → 1 ≤ getD values k 0 → getD values k 0 ≤ 2 → Threshold counts values (getD values k 0) set → supportedAt (caseIn counts rows) values k ≡ true
+      → answer ≡ justifiedIn counts rows values levels k
 
--- the set's pairs of each shape that the rule reads, other than by a not
-pub record ReferencesAdded (S : ℕ → ℕ → Bool) (r : ShapeRule) (n w : ℕ) (t t′ : List ℕ) : Type 0 where
-  pub done : (s a : ℕ) → nots r ≡ 0 → any (references r) (λ q. eqb q s) ≡ true → a < n → S s a ≡ true → member t′ w s a ≡ true
-  pub inside : Inside S n w t → Inside S n w t′
-  pub long : length t′ ≡ length t
+pub record LevelRoom (counts : Counts) (valid possible levels : List ℕ) : Type 0 where
+  pub valid-there : 64 ≤ length valid
+  pub possible-there : 64 ≤ length possible
+  pub levels-there : 2 * (counts .shapes * counts .nodes) ≤ length levels
 
--- the table is the set of the pairs of at least a value
-pub record Threshold (k : Counts) (w : ℕ) (values : List ℕ) (value : ℕ) (t : List ℕ) : Type 0 where
-  pub members : (s a : ℕ) → s < k .shapes → a < k .nodes → member t w s a ≡ leb value (getD values (s * k .nodes + a) 0)
+-- pair k is justified, if it is supported, with the values whose sets these are
+pub record PairJustified (counts : Counts) (rows valid possible levels : List ℕ) (k : ℕ) (answer : Bool) : Type 0 where
+  pub right : (values : List ℕ) → Proposed counts values valid possible → supportedAt (caseIn counts rows) values k ≡ true
+      → answer ≡ justifiedIn counts rows values levels k
 
--- ---- One pair
-
--- every number is a value, and the tables are the sets of the valid and of the possible pairs
-pub record Proposed (k : Counts) (w : ℕ) (values levels valid possible lower : List ℕ) : Type 0 where
-  pub room : CheckRoom k w values levels valid possible lower
-  pub valued : (j : ℕ) → j < k .shapes * k .nodes → getD values j 0 ≤ 2
-  pub valid-set : Threshold k w values 2 valid
-  pub possible-set : Threshold k w values 1 possible
-
--- the rule's value at a node, by the two sets
-pub record RuleGives (r : ShapeRule) (a n w : ℕ) (alive t valid possible : List ℕ) (value : ℕ) : Type 0 where
-  pub right : (c : Case) → KernelOf c r n w t → LiveIn c w alive → value ≡ cond (live c a) (cond (holds c (member valid w) (member possible w) r a) 2 (cond (holds c (member possible w) (member valid w) r a) 1 0)) 0
-
--- a level above 0, and the rule holds by the pairs of no smaller value and lower level
-pub record Justified (r : ShapeRule) (a n w : ℕ) (t values levels valid possible : List ℕ) (value level : ℕ) (answer : Bool) : Type 0 where
-  pub right : (c : Case) → KernelOf c r n w t → answer ≡ (ltb 0 level && holds c (lowerSet values levels n value level) (member (cond (eqb value 2) possible valid) w) r a)
-
--- pair p's fault, and the first of all
-abbrev pub faultAt : Case → List ℕ → List ℕ → ℕ → Refusal
-faultAt c values levels p =
-    orElse (refuseUnless (supportedAt c values p) 14 p) (refuseUnless (justifiedAt c values (levelsIn (pairCount c) levels) p) 15 p)
-
-pub record PairJudged (k : Counts) (w : ℕ) (shapes alive t values levels : List ℕ) (p : ℕ) (r : Refusal) : Type 0 where
-  pub right : (c : Case) → TablesOf c k w shapes alive t → r ≡ faultAt c values levels p
-
-pub record PairsJudged (k : Counts) (w : ℕ) (shapes alive t values levels : List ℕ) (r : Refusal) : Type 0 where
-  pub right : (c : Case) → TablesOf c k w shapes alive t → r ≡ pairFault c values (levelsIn (pairCount c) levels)
+-- so for the first of so many pairs, all supported, that is not
+pub record LevelsChecked (counts : Counts) (rows valid possible levels : List ℕ) (pairs : ℕ) (r : Refusal) : Type 0 where
+  pub right : (values : List ℕ) → Proposed counts values valid possible → ((k : ℕ) → k < pairs → supportedAt (caseIn counts rows) values k ≡ true)
+      → r ≡ firstOf (upTo pairs) (λ k. refuseUnless (justifiedIn counts rows values levels k) 15 k)

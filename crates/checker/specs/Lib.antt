@@ -1,2 +1,3 @@
--- What checking answers, and what its parts leave.
+-- What checking answers, and what its parts ask and leave.
+pub mod Sets
 pub mod Checking

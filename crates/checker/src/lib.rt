@@ -1,3 +1,5 @@
 // Checking: whether a proposed assignment with levels is accepted, pair by pair.
-pub mod pairs;
-pub mod sets;
+pub mod checking;
+pub mod levels;
+pub mod support;
+pub mod thresholds;

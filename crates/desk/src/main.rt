@@ -1,11 +1,11 @@
 // The desk program: reads a case from standard input, solves it, and prints the rounds, each shape's values by node, and the verdicts;
 // or `too long`, or the refusal.
-use cases::reading::read;
 use judge::solving::solve;
 use libc::STDIN_FILENO;
 use libc::STDOUT_FILENO;
 use listing::print_listing;
 use listing::print_refusal;
+use reader::reading::read;
 
 // The longest case that the desk takes.
 const MOST: usize = 8192;

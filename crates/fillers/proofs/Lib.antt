@@ -1,6 +1,7 @@
--- The laws of rows and blocks as relations, of the closure of a block, of what is gathered from the edges, and of the paths worked out
--- one from the other; and the proofs of the functions.
-pub mod Relations
-pub mod Closure
+-- The laws of sets of paths, of what is gathered from the edges, of the paths worked out one from the other and of the whole table; and the
+-- law that users of a case's tables start from.
+pub mod PathSets
 pub mod Gathering
 pub mod Filling
+pub mod Making
+pub mod Prepared

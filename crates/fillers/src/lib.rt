@@ -1,5 +1,6 @@
-// The filler table: for every path at every node the set of its fillers, and the set of live nodes.
-// Only `edges` reads edges. What the fillers of a path are made of are blocks of rows: `blocks` joins them, `table` says in which order.
-pub mod blocks;
+// The sets of nodes of a case in one table of rows: row 0 the live nodes, row 1 + path × nodes + node the fillers of the path at the node,
+// for each path that a shape names. `wanted` says which paths that takes; only `edges` reads edges; what the fillers of a path are made
+// of are blocks of rows, which the crate relations joins, and `table` says in which order.
 pub mod edges;
 pub mod table;
+pub mod wanted;

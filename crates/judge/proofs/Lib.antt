@@ -1,6 +1,5 @@
--- The laws of the entry points: what they make of a case in tables.
-pub mod Preparing
-pub mod Answers
-pub mod Proposals
-pub mod Denying
-pub mod Pairing
+-- The laws of the entry points: what was read, then solving, checking and ranking.
+pub mod Parsed
+pub mod Solves
+pub mod Checks
+pub mod Ranks

@@ -1,3 +1,4 @@
--- What the inner functions of the entry points ask and leave, and the answers of a refusal.
-pub mod Given
-pub mod Refused
+-- The equations of solving's entry points, and what their inner functions ask and leave.
+pub mod Solved
+pub mod Checked
+pub mod Ranked

@@ -1,20 +1,22 @@
 // Checking a proposal: refusals 1 to 11, 13, 14, 15, else the undetermined pairs and the valid targets. Nothing is written.
-use crate::refusals::or_else;
-use crate::refusals::too_short;
-use crate::tables::WORDS;
-use crate::tables::prepare;
-use cases::faults::Counts;
-use cases::reading::Refusal;
-use cases::reading::parse;
-use checker::pairs::check_pairs;
-use levels::values::tally_of;
-use levels::values::tally_targets;
+use cases::answers::Refusal;
+use cases::counts::Counts;
+use checker::checking::check_pairs;
+use fillers::table::node_sets;
+use reader::reading::parse;
 use semantics::answers::Checked;
+use semantics::refusals::or_else;
+use semantics::refusals::too_short;
+use semantics::value::Value;
+use values::tallies::tally_of;
+use values::tallies::tally_targets;
 ghost use mathlib.Core.Path.{_≡_};
-ghost use Rattle.cases.specs.Tables.{caseIn};
-ghost use Rattle.semantics.specs.Operations.{checked, checkFault, checkAnswer};
-ghost use Rattle.judge.specs.Given.{Given, Proposal, Faulted};
-ghost use Rattle.judge.specs.Refused.{refusedChecked};
+ghost use Prim.Native.Nat.{_*_, _≤_};
+ghost use lib.ListN.{length};
+ghost use Rattle.cases.specs.Counts.{Fit};
+ghost use Rattle.cases.specs.Rows.{CaseIn, caseIn};
+ghost use Rattle.semantics.specs.Operations.{checked, checkAnswer};
+ghost use Rattle.judge.specs.Checked.{shortCheck, refusedChecked, proposalFault};
 
 // The answer of a refusal: its number and place, and no counts.
 fn refused(refusal: Refusal) -> Checked
@@ -28,69 +30,36 @@ fn refused(refusal: Refusal) -> Checked
     }
 }
 
-// The fault of a proposal whose tables are long enough.
-fn fault_of(
-    counts: Counts,
-    edges: &[u16],
-    paths: &[u16],
-    shapes: &[u16],
-    values: &[u8],
-    levels: &[u8],
-) -> Refusal
-    requires { ⌜ Proposal counts (now edges) (now paths) (now shapes) (now values) (now levels) ⌝ }
-    ensures { λ r. ⌜ Faulted counts (now (edges .entry)) (now (paths .entry)) (now (shapes .entry)) (now (values .entry)) (now (levels .entry)) r ⌝ }
+// 10 and 11, for tables of these lengths.
+fn short_tables(counts: Counts, values: usize, levels: usize) -> Refusal
+    requires { ⌜ Fit counts ⌝ }
+    ensures { λ r. ⌜ r ≡ shortCheck counts values levels ⌝ }
 {
-    let mut alive = [0u64; 2];
-    let mut done = [0u8; 16];
-    let mut t = [0u64; 4096];
-    let mut valid = [0u64; 64];
-    let mut possible = [0u64; 64];
-    let mut lower = [0u64; 64];
-    prepare(counts, edges, paths, &mut alive, &mut done, &mut t);
-    check_pairs(
-        counts,
-        shapes,
-        WORDS,
-        &alive,
-        &t,
-        values,
-        levels,
-        &mut valid,
-        &mut possible,
-        &mut lower,
+    let pairs = counts.shapes * counts.nodes;
+    or_else(
+        too_short(10, pairs, values),
+        too_short(11, 2 * pairs, levels),
     )
 }
 
-// Checks a proposal for a case in tables.
-fn check_case(
-    counts: Counts,
-    edges: &[u16],
-    paths: &[u16],
-    shapes: &[u16],
-    targets: &[u16],
-    values: &[u8],
-    levels: &[u8],
-) -> Checked
-    requires { ⌜ Given counts (now edges) (now paths) (now shapes) (now targets) ⌝ }
-    ensures { λ r. ⌜ r ≡ checked (checkFault (caseIn counts (now (edges .entry)) (now (paths .entry)) (now (shapes .entry)) (now (targets .entry))) (now (values .entry)) (now (levels .entry))) (caseIn counts (now (edges .entry)) (now (paths .entry)) (now (shapes .entry)) (now (targets .entry))) (now (values .entry)) ⌝ }
+// Checks a proposal for the case in the rows.
+fn check_case(counts: Counts, rows: &[u16], values: &[u8], levels: &[u8]) -> Checked
+    requires { ⌜ CaseIn counts (now rows) ⌝ }
+    requires { ⌜ counts .shapes * counts .nodes ≤ length (now values) ⌝ }
+    requires { ⌜ 2 * (counts .shapes * counts .nodes) ≤ length (now levels) ⌝ }
+    ensures { λ r. ⌜ r ≡ checked (proposalFault (caseIn counts (now (rows .entry))) (now (values .entry)) (now (levels .entry))) (caseIn counts (now (rows .entry))) (now (values .entry)) ⌝ }
 {
-    let pairs = counts.shapes * counts.nodes;
-    let short = or_else(
-        too_short(10, pairs, values.len()),
-        too_short(11, 2 * pairs, levels.len()),
-    );
-    if short.number != 0 {
-        return refused(short);
-    }
-    let fault = fault_of(counts, edges, paths, shapes, values, levels);
+    let mut sets = [0u64; 4098];
+    node_sets(counts, rows, &mut sets);
+    let fault = check_pairs(counts, rows, &sets, values, levels);
     if fault.number != 0 {
         return refused(fault);
     }
     Checked {
         number: fault.number,
         place: fault.place,
-        undetermined: tally_of(values, pairs, 1),
-        valid: tally_targets(counts, targets, values, 2),
+        undetermined: tally_of(values, counts.shapes * counts.nodes, Value::OPEN),
+        valid: tally_targets(counts, rows, values, Value::VALID),
     }
 }
 
@@ -98,30 +67,12 @@ fn check_case(
 pub fn check(case: &[u8], values: &[u8], levels: &[u8]) -> Checked
     ensures { λ r. ⌜ r ≡ checkAnswer (now (case .entry)) (now (values .entry)) (now (levels .entry)) ⌝ }
 {
-    let mut edges = [0u16; 4096];
-    let mut paths = [0u16; 64];
-    let mut shapes = [0u16; 128];
-    let mut targets = [0u16; 1024];
-    let mut named = [0usize; 640];
-    let parsed = parse(
-        case,
-        &mut edges,
-        &mut paths,
-        &mut shapes,
-        &mut targets,
-        &mut named,
-    );
-    let refusal = parsed.refusal;
+    let mut rows = [0u16; 5360];
+    let parsed = parse(case, &mut rows);
+    let short = short_tables(parsed.counts, values.len(), levels.len());
+    let refusal = or_else(parsed.refusal, short);
     if refusal.number != 0 {
         return refused(refusal);
     }
-    check_case(
-        parsed.counts,
-        &edges,
-        &paths,
-        &shapes,
-        &targets,
-        values,
-        levels,
-    )
+    check_case(parsed.counts, &rows, values, levels)
 }

@@ -2,15 +2,16 @@
 use crate::checking;
 use crate::ranking;
 use crate::solving;
-use cases::reading::Reading;
-use cases::reading::read;
+use cases::answers::Reading;
+use reader::reading::read;
 use semantics::answers::Checked;
 use semantics::answers::Ranked;
 use semantics::answers::Solution;
 ghost use mathlib.Core.Path.{_≡_};
 ghost use Rattle.cases.specs.Reading.{reading};
-ghost use Rattle.semantics.specs.Operations.{checkRefusal, checkAnswer, rankAnswer, rankStrata};
-ghost use Rattle.judge.specs.Given.{SolvedAs, NumberedAs};
+ghost use Rattle.semantics.specs.Operations.{checkAnswer};
+ghost use Rattle.judge.specs.Solved.{SolvedAs, NumberedAs};
+ghost use Rattle.judge.specs.Ranked.{CaseRanked};
 
 // Solves, for the crew desk: the refusal number, 0 for none.
 #[no_mangle]
@@ -63,7 +64,7 @@ pub extern "C" fn judge_check(case: &[u8], values: &[u8], levels: &[u8]) -> Chec
 
 #[no_mangle]
 pub extern "C" fn judge_rank(case: &[u8], strata: &mut [u8]) -> Ranked
-    ensures { λ r. ⌜ (r ≡ rankAnswer (now (case .entry)) (now (strata .entry))) × (now (strata .exit) ≡ rankStrata (now (case .entry)) (now (strata .entry))) ⌝ }
+    ensures { λ r. ⌜ CaseRanked (now (case .entry)) (now (strata .entry)) r (now (strata .exit)) ⌝ }
 {
     ranking::rank(case, strata)
 }

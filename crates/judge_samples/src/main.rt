@@ -13,66 +13,6 @@ fn number(n: usize) {
     io::print_decimal(STDOUT_FILENO, n as u64);
 }
 
-// The ring case: fittings 2 and 3 relay only for each other.
-fn ring() -> [u8; 54] {
-    [
-        0x01,
-        0x04,
-        0x00,
-        0x02,
-        0x00,
-        0x01,
-        0x00,
-        0x00,
-        0x00,
-        0x02,
-        0x00,
-        0x02,
-        0x00,
-        0x03,
-        0x00,
-        0x02,
-        0x00,
-        0x03,
-        0x00,
-        0x02,
-        0x00,
-        0x02,
-        0x01,
-        0x00,
-        0x00,
-        0x00,
-        0x00,
-        0x10,
-        0x00,
-        0x10,
-        0x01,
-        0x20,
-        0x27,
-        0x01,
-        0x01,
-        0x00,
-        0x27,
-        0x01,
-        0x00,
-        0x03,
-        0x23,
-        0x01,
-        0x02,
-        0x24,
-        0x03,
-        0x30,
-        0x03,
-        0x01,
-        0x00,
-        0x30,
-        0x03,
-        0x02,
-        0x00,
-        0xff,
-    ]
-}
-
 // Solves into tables of these lengths: number, place, rounds, valid, undetermined, sure, open, impossible.
 fn show_solve(name: &[u8], case: &[u8], values: &mut [u8], levels: &mut [u8], verdicts: &mut [u8]) {
     let r = solve(case, values, levels, verdicts);
@@ -112,13 +52,12 @@ fn show_rank(name: &[u8], case: &[u8], strata: &mut [u8]) {
     print(b"\n");
 }
 
-fn solve_ring() {
-    let ring = ring();
+fn solve_ring(ring: &[u8]) {
     let mut values = [0u8; 20];
     let mut levels = [0u8; 40];
     let mut verdicts = [0u8; 2];
-    show_solve(b"ring", &ring, &mut values, &mut levels, &mut verdicts);
-    show_check(b"ring solved", &ring, &values, &levels);
+    show_solve(b"ring", ring, &mut values, &mut levels, &mut verdicts);
+    show_check(b"ring solved", ring, &values, &levels);
 }
 
 // A small case in tables that are long enough.
@@ -129,9 +68,18 @@ fn solve_small(name: &[u8], case: &[u8]) {
     show_solve(name, case, &mut values, &mut levels, &mut verdicts);
 }
 
+fn solve_others(clash: &[u8]) {
+    solve_small(b"clash", clash);
+    solve_small(b"no nodes", b"\x01\x00\x00\xff");
+    solve_small(b"3 unread", b"");
+    solve_small(
+        b"star of a path that no shape names",
+        b"\x01\x03\x00\x02\x00\x00\x00\x01\x00\x02\x00\x01\x00\x02\x00\x10\x00\x14\x00\x21\x02\x00\x27\x01\x01\x00\x30\x01\x00\x00\xff",
+    );
+}
+
 // Each table one byte short, with the later ones short too.
-fn solve_short() {
-    let ring = ring();
+fn solve_short(ring: &[u8]) {
     let mut values = [0u8; 20];
     let mut levels = [0u8; 40];
     let mut short_values = [0u8; 19];
@@ -139,44 +87,35 @@ fn solve_short() {
     let mut short_verdicts = [0u8; 1];
     show_solve(
         b"10",
-        &ring,
+        ring,
         &mut short_values,
         &mut short_levels,
         &mut short_verdicts,
     );
     show_solve(
         b"11",
-        &ring,
+        ring,
         &mut values,
         &mut short_levels,
         &mut short_verdicts,
     );
-    show_solve(b"12", &ring, &mut values, &mut levels, &mut short_verdicts);
+    show_solve(b"12", ring, &mut values, &mut levels, &mut short_verdicts);
 }
 
-fn solving() {
-    solve_ring();
-    solve_small(
-        b"clash",
-        b"\x01\x01\x00\x02\x00\x00\x00\x00\x00\x24\x01\x24\x00\xff",
-    );
-    solve_small(b"no nodes", b"\x01\x00\x00\xff");
-    solve_small(b"3 unread", b"");
-    solve_short();
-}
-
-fn checking() {
-    let ring = ring();
-    let clash = b"\x01\x01\x00\x02\x00\x00\x00\x00\x00\x24\x01\x24\x00\xff";
+// Proposals for the case of two shapes that deny each other, and for the ring.
+fn check_proposals(ring: &[u8], clash: &[u8]) {
     show_check(
         b"15 ring accepted by its lines alone",
-        &ring,
+        ring,
         b"\x02\x02\x02\x02\x02\x00\x00\x00\x00\x02\x02\x02\x02\x02\x02\x02\x00\x00\x00\x00",
         b"\x01\x00\x01\x00\x01\x00\x01\x00\x02\x00\x00\x00\x00\x00\x00\x00\x00\x00\x04\x00\x09\x00\x09\x00\x03\x00\x05\x00\x05\x00\x05\x00\x00\x00\x00\x00\x00\x00\x00\x00",
     );
     show_check(b"clash 2 0", clash, b"\x02\x00", b"\x01\x00\x00\x00");
     show_check(b"clash 0 2", clash, b"\x00\x02", b"\x00\x00\x01\x00");
     show_check(b"clash 1 1", clash, b"\x01\x01", b"\x01\x00\x01\x00");
+}
+
+fn check_unfit(clash: &[u8]) {
     show_check(b"14 clash 2 2", clash, b"\x02\x02", b"\x01\x00\x01\x00");
     show_check(b"15 level 0", clash, b"\x02\x00", b"\x00\x00\x00\x00");
     show_check(b"13 before 14", clash, b"\x02\x03", b"\x01\x00\x01\x00");
@@ -185,33 +124,35 @@ fn checking() {
     show_check(b"8 unread", b"\x01\x00\x00\xff\x00", b"", b"");
 }
 
-fn ranking() {
-    let ring = ring();
+// In a table of five bytes.
+fn rank_small(name: &[u8], case: &[u8]) {
     let mut strata = [0u8; 5];
-    let mut short = [0u8; 4];
-    show_rank(b"ring", &ring, &mut strata);
-    show_rank(b"16", &ring, &mut short);
-    show_rank(
-        b"17 clash",
-        b"\x01\x01\x00\x02\x00\x00\x00\x00\x00\x24\x01\x24\x00\xff",
-        &mut strata,
-    );
-    show_rank(
-        b"17 not the first",
-        b"\x01\x01\x00\x20\x24\x02\x22\x01\x00\xff",
-        &mut strata,
-    );
-    show_rank(
-        b"double not",
-        b"\x01\x01\x00\x24\x01\x24\x02\x20\xff",
-        &mut strata,
-    );
-    show_rank(b"no shapes", b"\x01\x00\x00\xff", &mut strata);
-    show_rank(b"2 unread", b"\xff", &mut strata);
+    show_rank(name, case, &mut strata);
 }
 
+fn rank_cases(ring: &[u8], clash: &[u8]) {
+    let mut short = [0u8; 4];
+    rank_small(b"ring", ring);
+    show_rank(b"16", ring, &mut short);
+    rank_small(b"17 clash", clash);
+    rank_small(
+        b"17 not the first",
+        b"\x01\x01\x00\x20\x24\x02\x22\x01\x00\xff",
+    );
+    rank_small(b"double not", b"\x01\x01\x00\x24\x01\x24\x02\x20\xff");
+    rank_small(b"no shapes", b"\x01\x00\x00\xff");
+    rank_small(b"2 unread", b"\xff");
+}
+
+// The ring case, in which fittings 2 and 3 relay only for each other, and the case of two shapes that deny each other.
 fn main() {
-    solving();
-    checking();
-    ranking();
+    let ring =
+        b"\x01\x04\x00\x02\x00\x01\x00\x00\x00\x02\x00\x02\x00\x03\x00\x02\x00\x03\x00\x02\x00\x02\x01\x00\x00\x00\x00\x10\x00\x10\x01\x20\x27\x01\x01\x00\x27\x01\x00\x03\x23\x01\x02\x24\x03\x30\x03\x01\x00\x30\x03\x02\x00\xff";
+    let clash = b"\x01\x01\x00\x02\x00\x00\x00\x00\x00\x24\x01\x24\x00\xff";
+    solve_ring(ring);
+    solve_others(clash);
+    solve_short(ring);
+    check_proposals(ring, clash);
+    check_unfit(clash);
+    rank_cases(ring, clash);
 }

@@ -1,6 +1,5 @@
--- The laws of this crate: entries put into tables, values and tallies, marks, one step, and the steps of a run.
-pub mod Putting
-pub mod Written
-pub mod Marking
-pub mod Stepping
-pub mod Running
+-- The laws of rows made word by word and row by row, of levels in bytes, of one step, and of the steps of C(X).
+pub mod Rows
+pub mod Bytes
+pub mod Taking
+pub mod Staging

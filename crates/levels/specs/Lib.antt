@@ -1,4 +1,4 @@
--- What the functions of this crate need and leave.
-pub mod Entries
-pub mod Writing
-pub mod Steps
+-- What the functions of this crate leave: one step, levels by pair, and all steps.
+pub mod Stepping
+pub mod Marking
+pub mod Running

@@ -1,3 +1,4 @@
-// What solving writes of the sets that it ended with: values, verdicts and levels by pair, and how many of a value there are.
+// Levels: the first steps of C(P) and C(T) that have each pair, found by taking the steps one by one.
+pub mod marks;
+pub mod runs;
 pub mod steps;
-pub mod values;

@@ -4,8 +4,8 @@ mod build;
 
 use build::put;
 use build::repeat;
-use cases::reading::read;
 use libc::STDOUT_FILENO;
+use reader::reading::read;
 
 fn number(n: usize) {
     io::write_all(STDOUT_FILENO, b" ");
@@ -48,6 +48,10 @@ fn samples() {
     show(b"no nodes", b"\x01\x00\x00\xff");
     show(b"128 nodes", b"\x01\x80\x00\xff");
     show(b"129 nodes", b"\x01\x81\x00\xff");
+}
+
+// Ends, least numbers, and the ring case.
+fn more_samples() {
     show(b"byte after end", b"\x01\x00\x00\xff\x00");
     show(b"second end", b"\x01\x00\x00\xff\xff");
     show(
@@ -64,11 +68,15 @@ fn samples() {
     );
 }
 
-// Refusals 1 to 3.
-fn early_refusals() {
+// Refusal 1.
+fn unknown_commands() {
     show(b"1 first byte", b"\x00");
     show(b"1 after paths", b"\x01\x00\x00\x15\xff");
     show(b"1 before 2", b"\x28");
+}
+
+// Refusal 2.
+fn disorder() {
     show(b"2 end alone", b"\xff");
     show(b"2 no nodes command", b"\x20\xff");
     show(b"2 second nodes command", b"\x01\x01\x00\x01\x01\x00\xff");
@@ -77,14 +85,18 @@ fn early_refusals() {
         b"2 edge after path",
         b"\x01\x01\x00\x10\x00\x02\x00\x00\x00\x00\x00\xff",
     );
+}
+
+// Refusal 3.
+fn cut_commands() {
     show(b"3 no end", b"\x01\x00\x00");
     show(b"3 nodes cut", b"\x01\x81");
     show(b"3 edge cut", b"\x01\x01\x00\x02\x00\x00\x00\x00");
     show(b"3 before 5", b"\x01\x01\x00\x02\x00\x09\x00\x00");
 }
 
-// Refusals 5 to 7.
-fn operand_refusals() {
+// Refusal 5.
+fn unknown_nodes() {
     show(b"5 subject", b"\x01\x02\x00\x02\x00\x02\x00\x00\x00\xff");
     show(b"5 object", b"\x01\x02\x00\x02\x00\x00\x00\x00\x01\xff");
     show(b"5 node shape", b"\x01\x02\x00\x21\x02\x00\xff");
@@ -93,6 +105,10 @@ fn operand_refusals() {
         b"5 largest node",
         b"\x01\x02\x00\x20\x21\x01\x00\x30\x00\x01\x00\xff",
     );
+}
+
+// Refusals 6 and 7.
+fn unknown_paths() {
     show(b"6 path itself", b"\x01\x01\x00\x14\x00\xff");
     show(b"6 second path", b"\x01\x01\x00\x10\x00\x12\x00\x01\xff");
     show(b"6 shape", b"\x01\x01\x00\x10\x00\x26\x01\x00\xff");
@@ -116,7 +132,7 @@ fn late_refusals() {
 }
 
 // Each limit at it, one above, and beside other refusals.
-fn limits() {
+fn edge_limit() {
     let node = b"\x01\x01\x00";
     let edge = b"\x02\x00\x00\x00\x00\x00";
     show_many(b"1024 edges", node, edge, 1024, b"\xff");
@@ -129,6 +145,10 @@ fn limits() {
         1024,
         b"\x02\x00\x05\x00\x00\x00\xff",
     );
+}
+
+fn path_limit() {
+    let node = b"\x01\x01\x00";
     show_many(b"16 paths", node, b"\x10\x00", 16, b"\xff");
     show_many(b"17 paths", node, b"\x10\x00", 17, b"\xff");
     show_many(
@@ -138,8 +158,15 @@ fn limits() {
         16,
         b"\x14\x20\xff",
     );
+}
+
+fn shape_limit() {
+    let node = b"\x01\x01\x00";
     show_many(b"32 shapes", node, b"\x20", 32, b"\xff");
     show_many(b"33 shapes", node, b"\x20", 33, b"\xff");
+}
+
+fn target_limit() {
     show_many(
         b"256 targets",
         b"\x01\x01\x00\x20",
@@ -172,9 +199,16 @@ fn longest() {
 
 fn main() {
     samples();
-    early_refusals();
-    operand_refusals();
+    more_samples();
+    unknown_commands();
+    disorder();
+    cut_commands();
+    unknown_nodes();
+    unknown_paths();
     late_refusals();
-    limits();
+    edge_limit();
+    path_limit();
+    shape_limit();
+    target_limit();
     longest();
 }

@@ -1,3 +1,3 @@
--- The laws of the shapes in a table, and of the sets of shapes that refer to others.
-pub mod Shapes
+-- The laws of sets of shapes as words, and of the shapes in the rows of a case.
 pub mod ShapeSets
+pub mod Shapes

@@ -1,2 +1,2 @@
--- The shapes in a table, their references, and sets of shapes as words.
-pub mod References
+-- Who refers to whom, and sets of shapes as words.
+pub mod Referring

@@ -1,5 +1,5 @@
--- The laws of the kernel: rules and words of nodes, sets of pairs in tables, what tables say of their case, and shapes at rest.
+-- The laws of the kernel, of tables as sets of pairs of the case that they hold, and of shapes at rest.
 pub mod Holding
 pub mod Sets
-pub mod Reading
+pub mod InTables
 pub mod Moving

@@ -1,4 +1,3 @@
--- What the kernel answers, the tables that it works on, and shapes at rest.
+-- What the kernel answers, and shapes at rest.
 pub mod Kernel
-pub mod CaseTables
 pub mod Resting

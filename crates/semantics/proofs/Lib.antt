@@ -7,3 +7,4 @@ pub mod Solved
 pub mod Paths
 pub mod Denial
 pub mod Undenied
+pub mod Refusing

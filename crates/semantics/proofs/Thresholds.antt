@@ -1,6 +1,6 @@
 -- Thresholds: a rule's value is at least w exactly where the rule holds with references read at least w and denied ones at least 3 - w;
 -- and a pair of value w is justified exactly where it holds with references of lower levels. Assumes nothing.
-use Prim.Native.Nat.{ℕ, zero, suc, _+_, _-_, _≤_, _<_, min, max}
+use Prim.Native.Nat.{ℕ, zero, suc, _+_, _-_, _≤_, _<_, max}
 use native.Mathlib.Omega.{arith}
 use mathlib.Core.Path.{_≡_, refl, sym, ap, _∙_}
 use mathlib.Core.Logic.{⊎-elim}
@@ -8,7 +8,7 @@ use mathlib.Core.Bool.{Bool, true, false, cond, not, _&&_, _||_, and-eq-true-iff
 use mathlib.Core.List.{List, [], _∷_, map}
 use lib.ListN.{length, length-map, List·getD-eq-default}
 use lib.Dec.{eqb, leb, ltb, leb·zero}
-use borrow.Author.Tests.{leb-true, le-leb, lt-ltb, lt-leb, leb-false, le-ltb, eqb-true, eq-eqb}
+use borrow.Author.Tests.{leb-true, le-leb, lt-ltb, lt-leb, leb-false, eqb-true, eq-eqb}
 use Rattle.fixpoint.specs.Lists.{any, all, keep, count, smallest, sort, nthSmallest, nthLargest}
 use Rattle.fixpoint.proofs.Lists.{tests, bool-cases, bool-ext, leb-min, ltb-max, all-where, length-keep, leb-same, all-map, count-map, count-keep, count-not, count-all, length-sort, smallest-at-least, largest-below, nthSmallest-below, nthLargest-at-least}
 use Rattle.cases.specs.Case.{Case, references}
@@ -17,7 +17,7 @@ use Rattle.cases.specs.declared.command.ShapeRule.{ShapeRule}
 use Rattle.cases.specs.declared.command.ShapeRule.the-variants.{Top, Node, And, Or, Not, Same, All, AtLeast}
 use Rattle.semantics.specs.Paths.{fillers, sameFillers}
 use Rattle.semantics.specs.Values.{ruleValue}
-use Rattle.semantics.specs.Levels.{ruleSupport}
+use Rattle.semantics.specs.Levels.{ruleSupport, supportBelow}
 use Rattle.semantics.specs.Stability.{holds}
 use Rattle.semantics.proofs.Kernel.{fillers-pass, first-of, second-of}
 
@@ -105,31 +105,47 @@ eqb-at-most : (a w : ℕ) → a ≤ w → eqb a w ≡ leb w a
 eqb-at-most a w h =
     bool-ext (eqb a w) (leb w a) (λ e. le-leb w a (omega (arith, eqb-true a w e))) (λ e. eq-eqb a w (omega (arith, tests)))
 
--- By cases on the rule, which holds with references read at least w: the parts of an and, or of an all, have that already, those of an
--- or are at most w, so the ones of value w are the ones at least w, and at least n fillers are at least w, so that the n-th level is there.
-support-from : (c : Case) (v l : ℕ → ℕ → ℕ) (r : ShapeRule) (a w L : ℕ) → shapeLeastPositive r ≡ true → ruleValue c v r a ≡ w → holds c (λ s b. leb w (v s b)) (λ s b. leb (3 - w) (v s b)) r a ≡ true → ltb (ruleSupport c v l w r a) (suc L) ≡ holds c (λ s b. leb w (v s b) && ltb (l s b) (suc L)) (λ s b. leb (3 - w) (v s b)) r a
-unfolding ruleValue ruleSupport holds
-support-from c v l Top a w L n e h = lt-ltb 0 (suc L) (omega arith) ∙ sym h
-support-from c v l (Node b) a w L n e h = lt-ltb 0 (suc L) (omega arith) ∙ sym h
-support-from c v l (And s t) a w L n e h =
-    let r = and-eq-true-iff (leb w (v (s .0) a)) (leb w (v (t .0) a)) .0 h in
-    rw (r .0, r .1) (ltb-max (suc L) (l (s .0) a) (l (t .0) a))
-support-from c v l (Or s t) a w L n e h =
+-- By cases on the rule, which holds with references read at least w: those parts of an or that are at least w are the ones of value w,
+-- since its parts are at most w, and at least n fillers are at least w, so that the n-th level is there.
+support-tests : (c : Case) (v l : ℕ → ℕ → ℕ) (r : ShapeRule) (a w L : ℕ) → shapeLeastPositive r ≡ true → ruleValue c v r a ≡ w → holds c (λ s b. leb w (v s b)) (λ s b. leb (3 - w) (v s b)) r a ≡ true
+    → ltb (ruleSupport c v l w r a) (suc L) ≡ supportBelow c (λ s b. leb w (v s b)) l (suc L) r a
+unfolding ruleValue ruleSupport holds supportBelow
+support-tests c v l Top a w L n e h = lt-ltb 0 (suc L) (omega arith)
+support-tests c v l (Node b) a w L n e h = lt-ltb 0 (suc L) (omega arith)
+support-tests c v l (And s t) a w L n e h = ltb-max (suc L) (l (s .0) a) (l (t .0) a)
+support-tests c v l (Or s t) a w L n e h =
     let es = eqb-at-most (v (s .0) a) w (omega arith) in
     let et = eqb-at-most (v (t .0) a) w (omega arith) in
     kept-below 1 (suc L) (s .0 ∷ t .0 ∷ []) (λ r. eqb (v r a) w) (λ r. l r a) (omega arith)
     (unfold count in leb-true 1 _ (one-of-two (eqb (v (s .0) a) w) (eqb (v (t .0) a) w) ∙ rw (es, et) h))
     ∙ (unfold count in one-of-two (eqb (v (s .0) a) w && ltb (l (s .0) a) (suc L)) (eqb (v (t .0) a) w && ltb (l (t .0) a) (suc L)) ∙ rw (es, et))
-support-from c v l (Not s) a w L n e h = lt-ltb 0 (suc L) (omega arith) ∙ sym h
-support-from c v l (Same p q) a w L n e h = lt-ltb 0 (suc L) (omega arith) ∙ sym h
-support-from c v l (All p s) a w L n e h =
-    largest-below L (map (l (s .0)) (fillers c (p .0) a))
-    ∙ all-map (l (s .0)) (fillers c (p .0) a) (λ x. ltb x (suc L))
-    ∙ all-where (fillers c (p .0) a) (λ b. leb w (v (s .0) b)) (λ b. ltb (l (s .0) b) (suc L)) h
-support-from c v l (AtLeast m p s) a w L n e h =
+support-tests c v l (Not s) a w L n e h = lt-ltb 0 (suc L) (omega arith)
+support-tests c v l (Same p q) a w L n e h = lt-ltb 0 (suc L) (omega arith)
+support-tests c v l (All p s) a w L n e h =
+    largest-below L (map (l (s .0)) (fillers c (p .0) a)) ∙ all-map (l (s .0)) (fillers c (p .0) a) (λ x. ltb x (suc L))
+support-tests c v l (AtLeast m p s) a w L n e h =
     kept-below m (suc L) (fillers c (p .0) a) (λ b. leb w (v (s .0) b)) (l (s .0)) (leb-true 1 m n)
     (leb-true m (count (fillers c (p .0) a) (λ b. leb w (v (s .0) b))) h)
 
-pub support-below : (c : Case) (v l : ℕ → ℕ → ℕ) (r : ShapeRule) (a w L : ℕ) → shapeLeastPositive r ≡ true → 1 ≤ w → w ≤ 2 → ruleValue c v r a ≡ w → ltb (ruleSupport c v l w r a) (suc L) ≡ holds c (λ s b. leb w (v s b) && ltb (l s b) (suc L)) (λ s b. leb (3 - w) (v s b)) r a
-support-below c v l r a w L n lo hi e =
-    support-from c v l r a w L n e (sym (value-at-least c v r a w n lo hi) ∙ le-leb w (ruleValue c v r a) (omega arith))
+-- where the rule holds with references read in S, these tests are the rule read in S and below the bound
+tests-hold : (c : Case) (S X : ℕ → ℕ → Bool) (l : ℕ → ℕ → ℕ) (r : ShapeRule) (a bound : ℕ) → holds c S X r a ≡ true
+    → supportBelow c S l bound r a ≡ holds c (λ s b. S s b && ltb (l s b) bound) X r a
+unfolding supportBelow holds
+tests-hold c S X l Top a bound h = refl
+tests-hold c S X l (Node b) a bound h = sym h
+tests-hold c S X l (And s t) a bound h = let r = and-eq-true-iff (S (s .0) a) (S (t .0) a) .0 h in rw (r .0, r .1)
+tests-hold c S X l (Or s t) a bound h = refl
+tests-hold c S X l (Not s) a bound h = sym h
+tests-hold c S X l (Same p q) a bound h = sym h
+tests-hold c S X l (All p s) a bound h = all-where (fillers c (p .0) a) (S (s .0)) (λ b. ltb (l (s .0) b) bound) h
+tests-hold c S X l (AtLeast m p s) a bound h = refl
+
+module _ (c : Case) (v l : ℕ → ℕ → ℕ) (r : ShapeRule) (a w L : ℕ) (n : shapeLeastPositive r ≡ true) (lo : 1 ≤ w) (hi : w ≤ 2) (e : ruleValue c v r a ≡ w) where
+  at-its-value : holds c (λ s b. leb w (v s b)) (λ s b. leb (3 - w) (v s b)) r a ≡ true
+  at-its-value = sym (value-at-least c v r a w n lo hi) ∙ le-leb w (ruleValue c v r a) (omega arith)
+
+  pub support-by-tests : ltb (ruleSupport c v l w r a) (suc L) ≡ supportBelow c (λ s b. leb w (v s b)) l (suc L) r a
+  support-by-tests = support-tests c v l r a w L n e at-its-value
+
+  pub support-below : ltb (ruleSupport c v l w r a) (suc L) ≡ holds c (λ s b. leb w (v s b) && ltb (l s b) (suc L)) (λ s b. leb (3 - w) (v s b)) r a
+  support-below = support-by-tests ∙ tests-hold c (λ s b. leb w (v s b)) (λ s b. leb (3 - w) (v s b)) l r a (suc L) at-its-value

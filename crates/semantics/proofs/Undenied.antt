@@ -17,10 +17,10 @@ use Rattle.cases.specs.Sound.{Sound}
 use Rattle.semantics.specs.Values.{pairCount, shapeOf}
 use Rattle.semantics.specs.Stability.{nextSet, validSet, possibleSet, StableAssignment}
 use Rattle.semantics.specs.Solving.{solvedValues}
-use Rattle.semantics.specs.Denial.{stratum}
+use Rattle.semantics.specs.Denial.{stratum, Undenied}
 use Rattle.semantics.proofs.Pairs.{shape-below}
 use Rattle.semantics.proofs.Kernel.{rule-system}
-use Rattle.semantics.proofs.Denial.{Undenied, stratum-falls}
+use Rattle.semantics.proofs.Denial.{stratum-falls}
 use Rattle.semantics.proofs.Levels.{step-grows, next-in, next-of}
 use Rattle.semantics.proofs.Solved.{solved-stable, has-valid, has-possible, valid-exactly, violated-exactly}
 

@@ -1,11 +1,11 @@
 -- Levels: the support of a pair, when it is justified, and which assignments are accepted with their levels.
 -- Document 01, "Levels and stability", first paragraph. Assumes nothing.
 use Prim.Native.Nat.{ℕ, max}
-use mathlib.Core.Bool.{Bool, _&&_, _||_}
+use mathlib.Core.Bool.{Bool, true, _&&_, _||_}
 use mathlib.Core.List.{List, [], _∷_, map}
 use lib.ListN.{getD}
 use lib.Dec.{eqb, leb, ltb}
-use Rattle.fixpoint.specs.Lists.{upTo, all, keep, largest, nthSmallest}
+use Rattle.fixpoint.specs.Lists.{upTo, all, count, keep, largest, nthSmallest}
 use Rattle.cases.specs.Case.{Case, shapeRule}
 use Rattle.cases.specs.declared.command.ShapeRule.{ShapeRule}
 use Rattle.cases.specs.declared.command.ShapeRule.the-variants.{Top, Node, And, Or, Not, Same, All, AtLeast}
@@ -24,6 +24,17 @@ ruleSupport c v l w (Same p q) a = 0
 ruleSupport c v l w (All p s) a = largest (map (l (s .0)) (fillers c (p .0) a))
 ruleSupport c v l w (AtLeast n p s) a =
     nthSmallest n (map (l (s .0)) (keep (fillers c (p .0) a) (λ b. leb w (v (s .0) b))))
+
+-- whether the support of a supported pair is below a bound, by tests alone: S has the pairs of no smaller value, l gives the levels
+unfoldable pub supportBelow : Case → (ℕ → ℕ → Bool) → (ℕ → ℕ → ℕ) → ℕ → ShapeRule → ℕ → Bool
+supportBelow c S l bound Top a = true
+supportBelow c S l bound (Node b) a = true
+supportBelow c S l bound (And s t) a = ltb (l (s .0) a) bound && ltb (l (t .0) a) bound
+supportBelow c S l bound (Or s t) a = (S (s .0) a && ltb (l (s .0) a) bound) || (S (t .0) a && ltb (l (t .0) a) bound)
+supportBelow c S l bound (Not s) a = true
+supportBelow c S l bound (Same p q) a = true
+supportBelow c S l bound (All p s) a = all (fillers c (p .0) a) (λ b. ltb (l (s .0) b) bound)
+supportBelow c S l bound (AtLeast n p s) a = leb n (count (fillers c (p .0) a) (λ b. S (s .0) b && ltb (l (s .0) b) bound))
 
 -- the support of pair k; v and l are the values and the levels by pair
 unfoldable pub pairSupport : Case → List ℕ → List ℕ → ℕ → ℕ

@@ -8,11 +8,11 @@ use lib.Dec.{eqb, leb}
 use Rattle.fixpoint.specs.Lists.{upTo, count, largest}
 use Rattle.cases.specs.Case.{Case}
 use Rattle.cases.specs.Reading.{outcome, noRefusal}
-use Rattle.cases.specs.declared.reading.Refusal.{Refusal}
+use Rattle.cases.specs.declared.answers.Refusal.{Refusal}
 use Rattle.semantics.specs.declared.answers.Solution.{Solution}
 use Rattle.semantics.specs.declared.answers.Checked.{Checked}
 use Rattle.semantics.specs.declared.answers.Ranked.{Ranked}
-use Rattle.semantics.specs.Values.{pairCount, isValue, supportedAt}
+use Rattle.semantics.specs.Values.{pairCount, byteSays, saidNumber, supportedAt}
 use Rattle.semantics.specs.Levels.{justifiedAt}
 use Rattle.semantics.specs.Solving.{rounds, solvedValues, solvedLevels, targetValues, verdicts}
 use Rattle.semantics.specs.Denial.{ownDenial, strata}
@@ -31,6 +31,10 @@ firstOf (k ∷ l) f = orElse (f k) (firstOf l f)
 -- a refusal of number n at a place unless all is well there
 unfoldable pub refuseUnless : Bool → ℕ → ℕ → Refusal
 refuseUnless ok n place = cond ok noRefusal (record { number = n; place = place })
+
+-- a refusal of number n at a place; the number 0 is none
+unfoldable pub refuse : ℕ → ℕ → Refusal
+refuse n place = cond (eqb n 0) noRefusal (record { number = n; place = place })
 
 -- a lent table is shorter than needed: the place is the length needed
 unfoldable pub tooShort : ℕ → ℕ → List ℕ → Refusal
@@ -104,9 +108,9 @@ solveVerdicts s valueTable levelTable verdictTable =
 
 -- ---- Checking: 1 to 11, then 13, then pair by pair 14 and 15
 
--- 13: the first pair whose number is no value
+-- 13: the first pair whose byte says no value
 unfoldable pub valueFault : Case → List ℕ → Refusal
-valueFault c v = firstOf (upTo (pairCount c)) (λ k. refuseUnless (isValue v k) 13 k)
+valueFault c v = firstOf (upTo (pairCount c)) (λ k. refuse (saidNumber (byteSays (getD v k 0))) k)
 
 -- 14 and 15: the first pair that is not supported or not justified
 unfoldable pub pairFault : Case → List ℕ → List ℕ → Refusal

@@ -18,6 +18,15 @@ use Rattle.semantics.specs.Paths.{live, fillers, sameFillers}
 unfoldable pub byteSays : ℕ → Said
 byteSays b = cond (leb b 2) (Is (record { 0 = b })) Above
 
+-- the number of each of these answers: 13 for a byte above 2; and the value
+abbrev pub saidNumber : Said → ℕ
+saidNumber (Is v) = 0
+saidNumber Above = 13
+
+abbrev pub saidValue : Said → ℕ
+saidValue (Is v) = v .0
+saidValue Above = 0
+
 -- ---- "A pair is a shape and a node, in order shape × nodes + node; the pair count is shapes × nodes."
 
 unfoldable pub pairCount : Case → ℕ

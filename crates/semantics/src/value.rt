@@ -1,7 +1,7 @@
 // The value of a pair: 0 violated, 1 undetermined, 2 valid.
 ghost use mathlib.Core.Path.{_≡_};
 ghost use Prim.Native.Nat.{_-_, min, max};
-ghost use Rattle.semantics.specs.Values.{byteSays};
+ghost use Rattle.semantics.specs.Values.{byteSays, saidNumber};
 
 pub struct Value(pub u8);
 
@@ -26,6 +26,16 @@ impl Value {
             1 => Said::Is(Value::OPEN),
             2 => Said::Is(Value::VALID),
             _ => Said::Above,
+        }
+    }
+
+    // The number of a refusal, 0 for a byte that says a value.
+    pub fn refusal_number(said: Said) -> usize
+        ensures { λ r. ⌜ r ≡ saidNumber said ⌝ }
+    {
+        match said {
+            Said::Is(_) => 0,
+            Said::Above => 13,
         }
     }
 

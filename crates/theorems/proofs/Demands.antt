@@ -4,40 +4,41 @@ use native.Mathlib.Numerals.{add-one}
 use native.Mathlib.Omega.{arith}
 use mathlib.Core.Path.{_≡_, sym, ap, _∙_}
 use mathlib.Core.Logic.{_↔_, Iff·rfl, Iff·trans}
-use mathlib.Core.Bool.{Bool, true, and-eq-true-iff}
-use mathlib.Core.List.{List, [], _++_, map, append-nil}
+use mathlib.Core.Bool.{true, and-eq-true-iff}
+use mathlib.Core.List.{List, [], _++_, append-nil}
 use lib.ListN.{length, getD, drop, length-append, length-map}
-use lib.Dec.{ltb, eqb, leb}
+use lib.Dec.{eqb, leb}
 use borrow.Author.Tests.{leb-true, ltb-true}
 use Rattle.fixpoint.specs.Lists.{all, upTo}
-use Rattle.fixpoint.specs.Stages.{lower, rest}
-use Rattle.fixpoint.proofs.Lists.{all-in, all-upTo-in, all-upTo-of}
+use Rattle.fixpoint.specs.Stages.{rest}
+use Rattle.fixpoint.proofs.Lists.{getD-map, all-in, all-upTo-in, all-upTo-of}
 use Rattle.fixpoint.proofs.Sets.{collect-ext}
 use Rattle.fixpoint.proofs.Alternating.{rest-equal, rest-first}
 use Rattle.cases.specs.Case.{Case}
-use Rattle.cases.specs.Sound.{Sound}
-use Rattle.cases.specs.Reading.{outcome}
+use Rattle.cases.specs.Sound.{Sound, Limited}
+use Rattle.cases.proofs.Sound.{outcome-sound, outcome-limited}
 use Rattle.cases.specs.declared.command.Target.{Target}
 use Rattle.semantics.specs.Values.{pairCount, pairOf, isValue, valued, supportedAt, supported}
 use Rattle.semantics.specs.Levels.{justifiedAt, accepted}
-use Rattle.semantics.specs.Stability.{StableAssignment, nextSet, validSet, possibleSet}
+use Rattle.semantics.specs.Stability.{StableAssignment, EveryStable, nextSet, validSet, possibleSet}
 use Rattle.semantics.specs.Solving.{solvedT, solvedP, solvedValues, solvedLevels, targetValues, verdicts, rounds, levelsOf}
+use Rattle.semantics.specs.Denial.{Undenied}
 use Rattle.semantics.specs.Operations.{caseOf, solveRefusal, solveAnswer, solveValues, solveLevels, solveVerdicts, checkRefusal, valueFault, pairFault, checkAnswer, levelsIn, levelBytes, solution, solveFault, checked, checkFault}
 use Rattle.semantics.proofs.Pairs.{pair-below}
 use Rattle.semantics.proofs.Kernel.{rule-system}
 use Rattle.semantics.proofs.Levels.{accepted-stable, stable-accepted, levels-small, levels-length}
-use Rattle.semantics.proofs.Solved.{EveryStable, solved-valued, solved-length, solved-stable, solved-valid-set, solved-possible-set, valid-exactly, violated-exactly, rounds-at-most}
-use Rattle.semantics.proofs.Denial.{Undenied}
+use Rattle.semantics.proofs.Solved.{solved-valued, solved-length, solved-stable, solved-valid-set, solved-possible-set, valid-exactly, violated-exactly, rounds-at-most}
 use Rattle.semantics.proofs.Undenied.{only-solved}
-use Rattle.theorems.proofs.Refusals.{orElse-none, unless-none, short-none, first-none, case-sound, counted-none, written-none, written-at, written-refused, getD-map, length-levelBytes, levels-read-back, levelBytes-bytes}
+use Rattle.semantics.proofs.Refusing.{orElse-none, unless-none, refuse-none, short-none, first-none, counted-none, written-none, written-at, written-refused, length-levelBytes, levels-read-back, levelBytes-bytes}
+use Rattle.theorems.specs.Demands.{Reads, SolvedCase, Untouched, LeadingWritten, AcceptedLevels, targetPair, RoundsCounted}
 
--- reading does not refuse the input
-abbrev pub Reads : List ℕ → Type 0
-Reads s = outcome s .refusal .number ≡ 0
+pub case-sound : (s : List ℕ) → Sound (caseOf s)
+unfolding caseOf
+case-sound s = outcome-sound s
 
--- "A case is solved when solve answers number 0 for it."
-pub record SolvedCase (s valueTable levelTable verdictTable : List ℕ) : Type 0 where
-  pub number-zero : solveAnswer s valueTable levelTable verdictTable .number ≡ 0
+case-limited : (s : List ℕ) → Limited (caseOf s)
+unfolding caseOf
+case-limited s = outcome-limited s
 
 -- ---- Demand 1: a fit case with tables long enough is solved; a refusal writes nothing; otherwise the named entries are written and no more
 
@@ -54,21 +55,11 @@ solve-none s vt lt dt =
 pub solve-refuses-no-fit-case : (s vt lt dt : List ℕ) → Reads s → pairCount (caseOf s) ≤ length vt → 2 * pairCount (caseOf s) ≤ length lt → length (caseOf s .targets) ≤ length dt → SolvedCase s vt lt dt
 solve-refuses-no-fit-case s vt lt dt r hv hl hd = record { number-zero = solve-none s vt lt dt .1 (r, (hv, (hl, hd))) }
 
-pub record Untouched (s vt lt dt : List ℕ) : Type 0 where
-  pub values : solveValues s vt lt dt ≡ vt
-  pub levels : solveLevels s vt lt dt ≡ lt
-  pub verdicts : solveVerdicts s vt lt dt ≡ dt
-
 pub refused-solve-writes-nothing : (s vt lt dt : List ℕ) → (solveAnswer s vt lt dt .number ≡ 0 → ⊥) → Untouched s vt lt dt
 unfolding solveAnswer solution solveValues solveLevels solveVerdicts
 refused-solve-writes-nothing s vt lt dt h =
     let r = solveRefusal s vt lt dt in
     record { values = written-refused r _ vt h; levels = written-refused r _ lt h; verdicts = written-refused r _ dt h }
-
-pub record LeadingWritten (s vt lt dt : List ℕ) : Type 0 where
-  pub values : solveValues s vt lt dt ≡ solvedValues (caseOf s) ++ drop (pairCount (caseOf s)) vt
-  pub levels : solveLevels s vt lt dt ≡ levelBytes (solvedLevels (caseOf s)) ++ drop (2 * pairCount (caseOf s)) lt
-  pub verdicts : solveVerdicts s vt lt dt ≡ verdicts (caseOf s) ++ drop (length (caseOf s .targets)) dt
 
 length-solved-bytes : (c : Case) → length (levelBytes (solvedLevels c)) ≡ 2 * pairCount c
 unfolding solvedLevels
@@ -119,18 +110,12 @@ check-none s vt lt =
     (orElse-none _ _ (short-none 11 (2 * N) lt (omega arith))
     (Iff·trans
     (orElse-none _ _
-    (first-none N _ (λ k h. unless-none (isValue vt k) 13 k (omega arith)))
+    (first-none N _ (λ k h. refuse-none vt k))
     (first-none N _ (λ k h. orElse-none _ _ (unless-none (supportedAt c vt k) 14 k (omega arith)) (unless-none (justifiedAt c vt l k) 15 k (omega arith)))))
     (accepted-each c vt l))))
 
 pub check-accepts-exactly : (s vt lt : List ℕ) → Reads s → pairCount (caseOf s) ≤ length vt → 2 * pairCount (caseOf s) ≤ length lt → (checkAnswer s vt lt .number ≡ 0) ↔ (accepted (caseOf s) vt (levelsIn (pairCount (caseOf s)) lt) ≡ true)
 check-accepts-exactly s vt lt r hv hl = (λ e. check-none s vt lt .0 e .1 .1 .1, λ h. check-none s vt lt .1 (r, (hv, (hl, h))))
-
--- a level table of bytes with which checking takes the assignment
-pub record AcceptedLevels (s vt : List ℕ) : Type 0 where
-  pub table : List ℕ
-  pub bytes : all table (λ b. ltb b 256) ≡ true
-  pub taken : checkAnswer s vt table .number ≡ 0
 
 -- the levels of solving's rule are taken, whatever follows them in the table
 stable-taken : (s vt later : List ℕ) → Reads s → pairCount (caseOf s) ≤ length vt → StableAssignment (caseOf s) vt → checkAnswer s vt (levelBytes (levelsOf (caseOf s) (validSet (caseOf s) vt) (possibleSet (caseOf s) vt)) ++ later) .number ≡ 0
@@ -148,27 +133,12 @@ stable-exactly-with-levels s vt r hv =
       λ a. accepted-stable c (case-sound s) vt (levelsIn (pairCount c) (a .table)) (check-none s vt (a .table) .0 (a .taken) .1 .1 .1),
       λ st. record {
         table = levelBytes l;
-        bytes = levelBytes-bytes l (levels-small c (case-sound s) vt st);
+        bytes = levelBytes-bytes l (levels-small c (case-limited s) vt st);
         taken = rw append-nil at (stable-taken s vt [] r hv st);
       },
     )
 
 -- ---- Demand 3: for every solved case
-
--- the pair of target i
-abbrev pub targetPair : Case → ℕ → ℕ
-targetPair c i = getD (map (λ t. pairOf c (t .shape .0) (t .node .0)) (c .targets)) i 0
-
--- Ti of solving
-abbrev pub roundT : Case → ℕ → List Bool
-roundT c i = lower (pairCount c) (nextSet c) i
-
--- n is i + 1 for the first i where the next T equals Ti
-pub record RoundsCounted (c : Case) (n : ℕ) : Type 0 where
-  pub i : ℕ
-  pub rounds-are : n ≡ i + 1
-  pub next-equal : roundT c (i + 1) ≡ roundT c i
-  pub first : (j : ℕ) → j < i → roundT c (j + 1) ≡ roundT c j → ⊥
 
 -- Assignments that agree on the pairs of the case
 module _ (c : Case) (v v′ : List ℕ) (agree : (k : ℕ) → k < pairCount c → getD v k 0 ≡ getD v′ k 0) where
@@ -194,14 +164,14 @@ nowhere = record { shape = record { 0 = 0 }; node = record { 0 = 0 } }
 
 target-below : (c : Case) → Sound c → (i : ℕ) → i < length (c .targets) → targetPair c i < pairCount c
 target-below c sound i h =
-    rw (getD-map (λ t. pairOf c (t .shape .0) (t .node .0)) (c .targets) i nowhere h)
+    rw (getD-map (λ t. pairOf c (t .shape .0) (t .node .0)) (c .targets) i nowhere 0 h)
     (pair-below c _ _ (ltb-true _ _ (all-in (c .targets) _ (sound .targets-named) i nowhere h)) (ltb-true _ _ (all-in (c .targets) _ (sound .targets-known) i nowhere h)))
 
 verdict-at : (c : Case) (i : ℕ) → i < length (c .targets) → getD (verdicts c) i 0 ≡ getD (solvedValues c) (targetPair c i) 0
 unfolding verdicts targetValues
 verdict-at c i h =
-    getD-map _ (c .targets) i nowhere h
-    ∙ ap (λ (k : ℕ). getD (solvedValues c) k 0) (sym (getD-map (λ t. pairOf c (t .shape .0) (t .node .0)) (c .targets) i nowhere h))
+    getD-map _ (c .targets) i nowhere 0 h
+    ∙ ap (λ (k : ℕ). getD (solvedValues c) k 0) (sym (getD-map (λ t. pairOf c (t .shape .0) (t .node .0)) (c .targets) i nowhere 0 h))
 
 module _ (s vt lt dt : List ℕ) (solved : SolvedCase s vt lt dt) where
   -- the input reads, and the leading entries are the solved ones
@@ -239,6 +209,10 @@ module _ (s vt lt dt : List ℕ) (solved : SolvedCase s vt lt dt) where
 
   pub solved-violated-exactly : (k : ℕ) → k < pairCount (caseOf s) → (getD (solveValues s vt lt dt) k 0 ≡ 0) ↔ EveryStable (caseOf s) k 0
   solved-violated-exactly k h = rw (← value-at k h) (violated-exactly (caseOf s) k h)
+
+  -- a target's byte is its pair's byte in the value table
+  pub target-is-its-pair : (i : ℕ) → i < length (caseOf s .targets) → getD (solveVerdicts s vt lt dt) i 0 ≡ getD (solveValues s vt lt dt) (targetPair (caseOf s) i) 0
+  target-is-its-pair i h = sym (target-value i h) ∙ value-at _ (target-below (caseOf s) (case-sound s) i h)
 
   pub target-sure-exactly : (i : ℕ) → i < length (caseOf s .targets) → (getD (solveVerdicts s vt lt dt) i 0 ≡ 2) ↔ EveryStable (caseOf s) (targetPair (caseOf s) i) 2
   target-sure-exactly i h = rw (← target-value i h) (valid-exactly (caseOf s) _ (target-below (caseOf s) (case-sound s) i h))

@@ -1,5 +1,4 @@
--- The demands, over bytes, and the starred samples.
-pub mod Refusals
+-- The demands as theorems about the definitions of the entry points, and the starred samples.
 pub mod Demands
 pub mod Ranking
 pub mod Samples

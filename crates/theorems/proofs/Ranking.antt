@@ -9,21 +9,17 @@ use mathlib.Core.List.{List}
 use lib.ListN.{length, getD}
 use borrow.Author.Tests.{not-false}
 use Rattle.fixpoint.specs.Lists.{upTo}
+use Rattle.fixpoint.proofs.Lists.{length-made, getD-made}
 use Rattle.cases.specs.Case.{Case}
-use Rattle.cases.specs.Reading.{outcome}
-use Rattle.cases.specs.declared.reading.Refusal.{Refusal}
-use Rattle.semantics.specs.Denial.{OwnDenial, ownDenial, MostNots, stratum, strata}
+use Rattle.cases.specs.Reading.{outcome, isReadingNumber}
+use Rattle.cases.proofs.RefusalNumbers.{reading-number}
+use Rattle.cases.specs.declared.answers.Refusal.{Refusal}
+use Rattle.semantics.specs.Denial.{OwnDenial, Undenied, ownDenial, MostNots, stratum, strata}
 use Rattle.semantics.specs.Operations.{firstOf, refuseUnless, tooShort, caseOf, rankRefusal, rankAnswer, rankStrata, ranked, rankFault, denialFault}
-use Rattle.semantics.proofs.Levels.{getD-numbers, length-numbers}
-use Rattle.semantics.proofs.Denial.{Undenied, own-denial-exactly, stratum-most}
-use Rattle.theorems.proofs.Refusals.{orElse-none, orElse-later, unless-none, unless-place, short-none, short-small, first-none, first-refuses, reading-small, case-sound, written-at}
-use Rattle.theorems.proofs.Demands.{Reads}
-
--- the place of 17 is a shape on a closed walk with a not, and no lower shape is on one
-pub record LowestDenied (s : List ℕ) (place : ℕ) : Type 0 where
-  pub in-case : place < length (caseOf s .shapes)
-  pub denied : OwnDenial (caseOf s) place
-  pub lowest : (k : ℕ) → k < place → OwnDenial (caseOf s) k → ⊥
+use Rattle.semantics.proofs.Denial.{own-denial-exactly, stratum-most}
+use Rattle.semantics.proofs.Refusing.{orElse-none, orElse-later, unless-none, unless-place, short-none, short-small, first-none, first-refuses, written-none, written-at, written-refused}
+use Rattle.theorems.specs.Demands.{Reads, StrataWritten, LowestDenied}
+use Rattle.theorems.proofs.Demands.{case-sound}
 
 -- the refusal of one shape
 abbrev denial : Case → ℕ → Refusal
@@ -45,13 +41,16 @@ rank-none s table =
     let S = length (caseOf s .shapes) in
     orElse-none _ _ Iff·rfl (orElse-none _ _ (short-none 16 S table (omega arith)) (first-none S (denial (caseOf s)) (denial-none s)))
 
--- 17 is above the other numbers of ranking
+-- 17 is none of the other numbers of ranking
+not-17 : (s : List ℕ) → outcome s .refusal .number ≡ 17 → ⊥
+not-17 s e = let h : isReadingNumber 17 ≡ true = rw e at (reading-number s) in false≢true h
+
 rank-17 : (s table : List ℕ) → rankRefusal s table .number ≡ 17 → rankRefusal s table ≡ firstOf (upTo (length (caseOf s .shapes))) (denial (caseOf s))
 unfolding rankRefusal rankFault denialFault
 rank-17 s table h =
     let S = length (caseOf s .shapes) in
-    let later = orElse-later (outcome s .refusal) _ 9 17 (reading-small s) (omega arith) h in
-    later ∙ orElse-later (tooShort 16 S table) _ 16 17 (short-small 16 S table) (omega arith) (rw later at h)
+    let later = orElse-later (outcome s .refusal) _ 17 (not-17 s) h in
+    later ∙ orElse-later (tooShort 16 S table) _ 17 (λ e. omega (arith, short-small 16 S table)) (rw later at h)
 
 -- So 17 comes from the first shape whose test fails, and its test is exactly the closed walk.
 pub refusal-17-is-real : (s table : List ℕ) → rankAnswer s table .number ≡ 17 → LowestDenied s (rankAnswer s table .place)
@@ -83,5 +82,19 @@ unfolding rankAnswer ranked rankStrata strata
 ranked-bytes s table h k hk =
     let c = caseOf s in
     let S = length (caseOf s .shapes) in
-    rw (written-at (rankRefusal s table) (strata c) table h k (omega (arith, length-numbers (stratum c) S)), getD-numbers (stratum c) S k hk)
+    rw (written-at (rankRefusal s table) (strata c) table h k (omega (arith, length-made (stratum c) S)), getD-made (stratum c) S k 0 hk)
     (stratum-most c (case-sound s) (ranked-undenied s table h) k hk)
+
+-- a refused ranking writes nothing, any other the leading entries and no more
+pub refused-rank-writes-nothing : (s table : List ℕ) → (rankAnswer s table .number ≡ 0 → ⊥) → rankStrata s table ≡ table
+unfolding rankAnswer ranked rankStrata
+refused-rank-writes-nothing s table h = written-refused (rankRefusal s table) _ table h
+
+length-strata : (c : Case) → length (strata c) ≡ length (c .shapes)
+unfolding strata
+length-strata c = length-made (stratum c) (length (c .shapes))
+
+pub rank-writes-leading : (s table : List ℕ) → rankAnswer s table .number ≡ 0 → StrataWritten s table
+unfolding rankAnswer ranked rankStrata
+rank-writes-leading s table h =
+    record { written = rw (← length-strata (caseOf s)) (written-none (rankRefusal s table) (strata (caseOf s)) table h) }

@@ -1,11 +1,10 @@
--- The starred samples of document 01, "Samples": one table, one theorem, computed from bytes by the definitions of the entry points.
--- Assumes nothing.
+-- The starred samples of document 01 are proved, computed from bytes by the definitions of the entry points. Assumes nothing.
 use Prim.Native.Nat.{ℕ, zero, suc, _<_}
 use native.Mathlib.Omega.{arith}
 use mathlib.Core.Path.{_≡_, refl, sym, ap}
 use mathlib.Core.Bool.{Bool, true, not, false≢true, and-eq-true-iff}
 use mathlib.Core.List.{List, [], _∷_}
-use lib.ListN.{length, getD}
+use lib.ListN.{getD}
 use lib.Dec.{eqb, leb}
 use borrow.Author.Tests.{leb-true}
 use Rattle.fixpoint.specs.Lists
@@ -14,9 +13,6 @@ use Rattle.fixpoint.specs.Stages
 use Rattle.cases.specs.Case
 use Rattle.cases.specs.Format
 use Rattle.cases.specs.Reading
-use Rattle.semantics.specs.declared.answers.Solution.{Solution}
-use Rattle.semantics.specs.declared.answers.Checked.{Checked}
-use Rattle.semantics.specs.declared.answers.Ranked.{Ranked}
 use Rattle.semantics.specs.Paths
 use Rattle.semantics.specs.Values
 use Rattle.semantics.specs.Levels
@@ -24,137 +20,7 @@ use Rattle.semantics.specs.Stability
 use Rattle.semantics.specs.Solving
 use Rattle.semantics.specs.Denial
 use Rattle.semantics.specs.Operations
-
--- ---- What a sample says; the first argument is the case in bytes
-
-pub data Sample : Type 0 where
-  -- what solving answers and leaves in the three tables
-  solves : List ℕ → Solution → (values levels verdicts : List ℕ) → Sample
-  -- what checking answers for a proposal
-  checks : List ℕ → (values levels : List ℕ) → Checked → Sample
-  -- what ranking answers and leaves in the table
-  ranks : List ℕ → Ranked → (strata : List ℕ) → Sample
-  -- the values of a stable assignment, which every stable assignment has
-  onlyStable : List ℕ → (values : List ℕ) → Sample
-
--- a table as it is lent: n bytes of EE, which nothing writes
-unfoldable pub lent : ℕ → List ℕ
-lent zero = []
-lent (suc n) = 0xee ∷ lent n
-
--- levels below 256 as bytes, two each, low first
-unfoldable pub twoBytes : List ℕ → List ℕ
-twoBytes [] = []
-twoBytes (x ∷ l) = x ∷ 0 ∷ twoBytes l
-
-unfoldable pub solved : List ℕ → List ℕ → List ℕ → List ℕ → Solution × List ℕ × List ℕ × List ℕ
-solved s vt lt dt = (
-  Operations.solveAnswer s vt lt dt,
-  Operations.solveValues s vt lt dt,
-  Operations.solveLevels s vt lt dt,
-  Operations.solveVerdicts s vt lt dt,
-)
-
-unfoldable pub ranked : List ℕ → List ℕ → Ranked × List ℕ
-ranked s table = (Operations.rankAnswer s table, Operations.rankStrata s table)
-
-pub record OnlyStable (s values : List ℕ) : Type 0 where
-  pub is-stable : Stability.StableAssignment (Operations.caseOf s) values
-  pub no-other : (v : List ℕ) → Stability.StableAssignment (Operations.caseOf s) v → (k : ℕ) → k < Values.pairCount (Operations.caseOf s) → getD v k 0 ≡ getD values k 0
-
--- the tables to be written are lent as long as they have to be
-abbrev pub Passes : Sample → Type 0
-Passes (solves s answer values levels verdicts) =
-    solved s (lent (length values)) (lent (length (twoBytes levels))) (lent (length verdicts))
-    ≡ (answer, values, twoBytes levels, verdicts)
-Passes (checks s values levels answer) = Operations.checkAnswer s values (twoBytes levels) ≡ answer
-Passes (ranks s answer strata) = ranked s (lent (length strata)) ≡ (answer, strata)
-Passes (onlyStable s values) = OnlyStable s values
-
-abbrev pub AllPass : List Sample → Type 0
-AllPass [] = Unit {0}
-AllPass (x ∷ l) = Passes x × AllPass l
-
--- ---- The cases
-
-unfoldable pub ring : List ℕ
-ring =
-    0x01 ∷ 0x04 ∷ 0x00
-    ∷ 0x02 ∷ 0x00 ∷ 0x01 ∷ 0x00 ∷ 0x00 ∷ 0x00
-    ∷ 0x02 ∷ 0x00 ∷ 0x02 ∷ 0x00 ∷ 0x03 ∷ 0x00
-    ∷ 0x02 ∷ 0x00 ∷ 0x03 ∷ 0x00 ∷ 0x02 ∷ 0x00
-    ∷ 0x02 ∷ 0x01 ∷ 0x00 ∷ 0x00 ∷ 0x00 ∷ 0x00
-    ∷ 0x10 ∷ 0x00 ∷ 0x10 ∷ 0x01
-    ∷ 0x20 ∷ 0x27 ∷ 0x01 ∷ 0x01 ∷ 0x00 ∷ 0x27 ∷ 0x01 ∷ 0x00 ∷ 0x03 ∷ 0x23 ∷ 0x01 ∷ 0x02 ∷ 0x24 ∷ 0x03
-    ∷ 0x30 ∷ 0x03 ∷ 0x01 ∷ 0x00 ∷ 0x30 ∷ 0x03 ∷ 0x02 ∷ 0x00
-    ∷ 0xff ∷ []
-
--- one node, with an edge to itself, and these shapes
-unfoldable pub oneNode : List ℕ → List ℕ
-oneNode shapes = 0x01 ∷ 0x01 ∷ 0x00 ∷ 0x02 ∷ 0x00 ∷ 0x00 ∷ 0x00 ∷ 0x00 ∷ 0x00 ∷ shapes
-
-unfoldable pub clash : List ℕ
-clash = oneNode (0x24 ∷ 0x01 ∷ 0x24 ∷ 0x00 ∷ 0xff ∷ [])
-
-unfoldable pub notItself : List ℕ
-notItself = oneNode (0x24 ∷ 0x00 ∷ 0xff ∷ [])
-
-unfoldable pub orItself : List ℕ
-orItself = oneNode (0x23 ∷ 0x00 ∷ 0x00 ∷ 0xff ∷ [])
-
--- properties 0 and 1 both lead from node 0 to node 1; path 2 is the union
-unfoldable pub twoPaths : List ℕ
-twoPaths =
-    0x01 ∷ 0x02 ∷ 0x00
-    ∷ 0x02 ∷ 0x00 ∷ 0x00 ∷ 0x00 ∷ 0x01 ∷ 0x00
-    ∷ 0x02 ∷ 0x01 ∷ 0x00 ∷ 0x00 ∷ 0x01 ∷ 0x00
-    ∷ 0x10 ∷ 0x00 ∷ 0x10 ∷ 0x01 ∷ 0x12 ∷ 0x00 ∷ 0x01
-    ∷ 0x20 ∷ 0x27 ∷ 0x01 ∷ 0x02 ∷ 0x00 ∷ 0x27 ∷ 0x02 ∷ 0x02 ∷ 0x00
-    ∷ 0xff ∷ []
-
--- nodes 0 and 1 are live and node 2 is not; no edge has the path's property
-unfoldable pub noFillers : List ℕ
-noFillers =
-    0x01 ∷ 0x03 ∷ 0x00
-    ∷ 0x02 ∷ 0x00 ∷ 0x00 ∷ 0x00 ∷ 0x01 ∷ 0x00
-    ∷ 0x10 ∷ 0x01
-    ∷ 0x20 ∷ 0x26 ∷ 0x00 ∷ 0x00
-    ∷ 0xff ∷ []
-
--- ---- The table
-
--- solved: rounds, valid and undetermined pairs, targets sure, open and impossible
-abbrev solution : (rounds valid undetermined sure opened impossible : ℕ) → Solution
-solution r v u s o i =
-    record { number = 0; place = 0; rounds = r; valid = v; undetermined = u; sure = s; «open» = o; impossible = i }
-
--- checked, with no undetermined pair and no valid target: number and place
-abbrev checked : (number place : ℕ) → Checked
-checked n p = record { number = n; place = p; undetermined = 0; valid = 0 }
-
--- in the document's order
-unfoldable pub starred : List Sample
-starred =
-    solves ring (solution 2 10 0 1 0 1)
-    (2 ∷ 2 ∷ 2 ∷ 2 ∷ 2 ∷ 0 ∷ 0 ∷ 0 ∷ 0 ∷ 2 ∷ 0 ∷ 0 ∷ 2 ∷ 2 ∷ 0 ∷ 0 ∷ 0 ∷ 0 ∷ 2 ∷ 2 ∷ [])
-    (1 ∷ 1 ∷ 1 ∷ 1 ∷ 2 ∷ 0 ∷ 0 ∷ 0 ∷ 0 ∷ 4 ∷ 0 ∷ 0 ∷ 3 ∷ 5 ∷ 0 ∷ 0 ∷ 0 ∷ 0 ∷ 1 ∷ 1 ∷ [])
-    (2 ∷ 0 ∷ [])
-    ∷ checks ring
-    (2 ∷ 2 ∷ 2 ∷ 2 ∷ 2 ∷ 0 ∷ 0 ∷ 0 ∷ 0 ∷ 2 ∷ 2 ∷ 2 ∷ 2 ∷ 2 ∷ 2 ∷ 2 ∷ 0 ∷ 0 ∷ 0 ∷ 0 ∷ [])
-    (1 ∷ 1 ∷ 1 ∷ 1 ∷ 2 ∷ 0 ∷ 0 ∷ 0 ∷ 0 ∷ 4 ∷ 9 ∷ 9 ∷ 3 ∷ 5 ∷ 5 ∷ 5 ∷ 0 ∷ 0 ∷ 0 ∷ 0 ∷ [])
-    (checked 15 14)
-    ∷ solves clash (solution 1 0 2 0 0 0) (1 ∷ 1 ∷ []) (1 ∷ 1 ∷ []) []
-    ∷ checks clash (2 ∷ 0 ∷ []) (1 ∷ 0 ∷ []) (checked 0 0)
-    ∷ checks clash (0 ∷ 2 ∷ []) (0 ∷ 1 ∷ []) (checked 0 0)
-    ∷ checks clash (2 ∷ 2 ∷ []) (1 ∷ 1 ∷ []) (checked 14 0)
-    ∷ ranks clash (record { number = 17; place = 0; strata = 0 }) (lent 2)
-    ∷ onlyStable notItself (1 ∷ [])
-    ∷ solves orItself (solution 1 0 0 0 0 0) (0 ∷ []) (0 ∷ []) []
-    ∷ solves twoPaths (solution 2 3 0 0 0 0) (2 ∷ 2 ∷ 2 ∷ 0 ∷ 0 ∷ 0 ∷ []) (1 ∷ 1 ∷ 2 ∷ 0 ∷ 0 ∷ 0 ∷ []) []
-    ∷ solves noFillers (solution 2 4 0 0 0 0) (2 ∷ 2 ∷ 0 ∷ 2 ∷ 2 ∷ 0 ∷ []) (1 ∷ 1 ∷ 0 ∷ 1 ∷ 1 ∷ 0 ∷ []) []
-    ∷ []
-
--- ---- The theorem
+use Rattle.theorems.specs.Samples.{OnlyStable, AllPass, lent, twoBytes, solved, ranked, ring, oneNode, clash, notItself, orItself, twoPaths, noFillers, starred}
 
 -- a value that is 2 exactly if it is not at least 1 is 1
 only-one : (x : ℕ) → leb x 2 ≡ true → eqb x 2 ≡ not (leb 1 x) → x ≡ 1
@@ -175,20 +41,20 @@ unfolding starred ring oneNode clash notItself orItself twoPaths noFillers lent 
     Sets.has Sets.collect Sets.none Sets.same
     Stages.stage Stages.least Stages.firstStep Stages.reach Stages.closure Stages.lower Stages.upper Stages.rest
     Case.emptyCase Case.countsOf Case.pathRule Case.shapeRule Case.pathsOfPath Case.pathsOfShape Case.references
-    Format.formatOf Format.widthOf Format.numberAt Format.rowOf Format.complete Format.pathRuleOf Format.shapeRuleOf
+    Format.formatOf Format.widthOf Format.takenOf Format.numberAt Format.rowOf Format.complete Format.operandsOf Format.pathRuleOf Format.shapeRuleOf
     Format.commandOf Format.commandAt
-    Reading.pathPathsEarlier Reading.shapePathsEarlier Reading.judged Reading.shapeNodesKnown Reading.stepAt Reading.noRefusal Reading.start Reading.add
-    Reading.shapesNamed Reading.namedAt Reading.pass Reading.unknownShape Reading.afterEnd Reading.finish Reading.walk
+    Reading.pathPathsEarlier Reading.shapePathsEarlier Reading.judged Reading.shapeNodesKnown Reading.stepAt Reading.start Reading.add
+    Reading.shapesNamed Reading.namedAt Reading.pass Reading.unknownShape Reading.afterEnd Reading.finish Reading.stepped Reading.walk
     Reading.outcome
     Paths.live Paths.linked Paths.ruleFills Paths.fillsWithin Paths.fills Paths.fillers
-    Values.pairCount Values.pairOf Values.shapeOf Values.nodeOf Values.entryAt Values.isValue Values.valued Values.ruleValue
+    Values.pairCount Values.pairOf Values.shapeOf Values.nodeOf Values.entryAt Values.byteSays Values.isValue Values.valued Values.ruleValue
     Values.pairValue Values.supportedAt
     Levels.ruleSupport Levels.pairSupport Levels.justifiedAt
     Stability.holds Stability.inSet Stability.nextSet Stability.validSet Stability.possibleSet
     Solving.solvedT Solving.solvedP Solving.rounds Solving.valuesOf Solving.solvedValues Solving.greatestLevel Solving.levelsOf
     Solving.solvedLevels Solving.targetValues Solving.verdicts
     Denial.nots Denial.refers Denial.ownDenial
-    Operations.orElse Operations.firstOf Operations.refuseUnless Operations.tooShort Operations.counted Operations.written
+    Operations.orElse Operations.firstOf Operations.refuseUnless Operations.refuse Operations.tooShort Operations.counted Operations.written
     Operations.tally Operations.levelBytes Operations.levelsIn Operations.caseOf Operations.solveRefusal Operations.solveFault Operations.solveAnswer Operations.solution
     Operations.solveValues Operations.solveLevels Operations.solveVerdicts Operations.checkRefusal Operations.checkFault Operations.valueFault Operations.pairFault Operations.checkAnswer Operations.checked
     Operations.rankRefusal Operations.rankFault Operations.denialFault Operations.rankAnswer Operations.ranked Operations.rankStrata

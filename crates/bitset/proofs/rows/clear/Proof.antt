@@ -3,12 +3,12 @@ use Prim.Native.Nat.{_-_}
 use mathlib.Core.Path.{refl}
 use lib.ListN.{length}
 use borrow.Author.Needs.{needs}
-use Rattle.bitset.proofs.Members.{Filled, filled-none, filled-more, filled-cleared}
+use Rattle.bitset.proofs.Members.{FilledTo, filled-none, filled-more, filled-cleared}
 use Rattle.bitset.proofs.rows.clear.Statement.{statement}
 use Rattle.bitset.proofs.rows.clear.Tie as tie
 
 abbrev Inv-loop : tie.InvT-loop
-Inv-loop t₀ i₀ t i = Filled (λ k. 0) (length t₀) i t
+Inv-loop t₀ i₀ t i = FilledTo (λ k. 0) (length t₀) i t
 
 abbrev μ-loop : tie.MeasureT-loop
 μ-loop t₀ i₀ t i = length t₀ - i

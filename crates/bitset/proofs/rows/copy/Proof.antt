@@ -2,12 +2,12 @@
 use Prim.Native.Nat.{_-_}
 use lib.ListN.{length, getD}
 use borrow.Author.Needs.{needs}
-use Rattle.bitset.proofs.Members.{Filled, filled-none, filled-more, filled-same}
+use Rattle.bitset.proofs.Members.{FilledTo, filled-none, filled-more, filled-same}
 use Rattle.bitset.proofs.rows.copy.Statement.{statement}
 use Rattle.bitset.proofs.rows.copy.Tie as tie
 
 abbrev Inv-loop : tie.InvT-loop
-Inv-loop t₀ u i₀ t i = Filled (λ k. getD u k 0) (length u) i t
+Inv-loop t₀ u i₀ t i = FilledTo (λ k. getD u k 0) (length u) i t
 
 abbrev μ-loop : tie.MeasureT-loop
 μ-loop t₀ u i₀ t i = length u - i

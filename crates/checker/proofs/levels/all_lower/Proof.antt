@@ -1,0 +1,53 @@
+-- `checker::levels::all_lower` meets its contract. The invariant: the levels at the nodes of the first i words are low. Assumes nothing.
+use Prim.Native.Nat.{_-_}
+use native.Mathlib.Omega.{arith}
+use borrow.Author.Needs.{needs}
+use Rattle.checker.specs.Sets.{isLow}
+use Rattle.checker.proofs.Lowered.{PassedTo, asked-row, passed-none, passed-more, passed-not, passed-done}
+use Rattle.checker.proofs.levels.all_lower.Statement.{statement}
+use Rattle.checker.proofs.levels.all_lower.Tie as tie
+
+abbrev Inv-loop : tie.InvT-loop
+Inv-loop sets row levels bound size s i₀ i = PassedTo (isLow levels bound size (s .0)) sets row (size .words) i
+
+abbrev μ-loop : tie.MeasureT-loop
+μ-loop sets row levels bound size s i₀ i = size .words - i
+
+loop-holds : tie.Need-loop-holds Inv-loop μ-loop
+loop-holds c = passed-none
+
+lower-word-requires : tie.Need-lower-word-requires Inv-loop μ-loop
+lower-word-requires c κs = search asked-row
+
+returns : tie.Need-returns Inv-loop μ-loop
+returns c =
+    let d = c .before .before in
+    let o = d .before .before in
+    passed-not (o .before .before .loop .inv) (o .if1 .taken) (c .before .lower-word .ensures) (search) (d .shared-slice-known3 .given) (c .if2 .taken)
+
+loop-less : tie.Need-loop-less Inv-loop μ-loop
+loop-less c = omega arith
+
+loop-again : tie.Need-loop-again Inv-loop μ-loop
+loop-again c = search passed-more
+
+returns-2 : tie.Need-returns-2 Inv-loop μ-loop
+returns-2 c = passed-done (c .if1 .left) (c .before .before .loop .inv)
+
+pub all-lower-spec : {M : Type 1} → statement M
+all-lower-spec =
+    tie.close
+    (tie.spec
+    Inv-loop
+    μ-loop
+    loop-holds
+    (λ c. search needs)
+    (λ c. search needs)
+    (λ c. search needs)
+    (λ c. search needs)
+    lower-word-requires
+    returns
+    (λ c. search needs)
+    loop-less
+    loop-again
+    returns-2)

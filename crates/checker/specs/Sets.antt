@@ -1,0 +1,54 @@
+-- Sets of pairs by value, levels by pair, and the nodes of a word at which a level is low. A set of pairs is a table of words, row s the nodes
+-- of shape s. Assumes nothing.
+use Prim.Native.Nat.{ℕ, _+_, _*_, _<_, _≤_}
+use mathlib.Core.Path.{_≡_}
+use mathlib.Core.Bool.{Bool, true, _&&_, _||_}
+use mathlib.Core.List.{List}
+use lib.ListN.{length, getD}
+use lib.Dec.{eqb, leb, ltb}
+use Rattle.bitset.specs.Words.{bit, member}
+use Rattle.cases.specs.Counts.{wordsOf}
+use Rattle.cases.specs.declared.counts.Counts.{Counts}
+use Rattle.cases.specs.declared.counts.Size.{Size}
+
+-- ---- By value
+
+-- the nodes at which shape s has at least a value were added to its row
+pub record RowRaised (size : Size) (s : ℕ) (values : List ℕ) (least : ℕ) (t t′ : List ℕ) : Type 0 where
+  pub members : (q a : ℕ) → a < size .nodes
+      → member t′ (size .words) q a ≡ ((eqb q s && leb least (getD values (s * size .nodes + a) 0)) || member t (size .words) q a)
+  pub long : length t′ ≡ length t
+
+-- the table is the set of the pairs of at least a value
+pub record Threshold (counts : Counts) (values : List ℕ) (least : ℕ) (t : List ℕ) : Type 0 where
+  pub members : (s a : ℕ) → s < counts .shapes → a < counts .nodes → member t (wordsOf counts) s a ≡ leb least (getD values (s * counts .nodes + a) 0)
+  pub long : 64 ≤ length t
+
+-- every number is a value, and the tables are the sets of the valid and of the possible pairs
+pub record Proposed (counts : Counts) (values valid possible : List ℕ) : Type 0 where
+  pub there : counts .shapes * counts .nodes ≤ length values
+  pub valued : (k : ℕ) → k < counts .shapes * counts .nodes → getD values k 0 ≤ 2
+  pub valid-set : Threshold counts values 2 valid
+  pub possible-set : Threshold counts values 1 possible
+
+-- ---- By level
+
+-- the level of pair k: two bytes, low first
+unfoldable pub levelAt : List ℕ → ℕ → ℕ
+levelAt levels k = getD levels (2 * k) 0 + 256 * getD levels (2 * k + 1) 0
+
+-- the level of shape s at node a is below the bound
+abbrev pub isLow : List ℕ → ℕ → Size → ℕ → ℕ → Bool
+isLow levels bound size s a = ltb (levelAt levels (s * size .nodes + a)) bound
+
+-- the levels of shape s are there
+pub record LevelRow (levels : List ℕ) (size : Size) (s : ℕ) : Type 0 where
+  pub fits : 2 * (s * size .nodes + size .nodes) ≤ length levels
+
+-- the numbers in a row are nodes
+pub record RowBelow (sets : List ℕ) (row : ℕ) (size : Size) : Type 0 where
+  pub each : (b : ℕ) → b < 64 * size .words → member sets (size .words) row b ≡ true → b < size .nodes
+
+-- of the numbers in word i of a row, those that pass a test
+pub record WordWhere (test : ℕ → Bool) (word i passing : ℕ) : Type 0 where
+  pub bits : (j : ℕ) → j < 64 → bit passing j ≡ (bit word j && test (64 * i + j))

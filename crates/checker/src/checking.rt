@@ -1,0 +1,95 @@
+// The first fault of a proposed assignment with levels: 13, then pair by pair 14 and 15. Every pair is looked at for 14 first: 15 can then
+// only stand below the first 14, and the pairs there are supported.
+use crate::levels::level_fault;
+use crate::support::support_fault;
+use crate::thresholds::fill;
+use cases::answers::Refusal;
+use cases::answers::no_refusal;
+use cases::counts::Counts;
+use semantics::refusals::or_else;
+use semantics::refusals::refuse;
+use semantics::value::Value;
+ghost use mathlib.Core.Path.{_≡_};
+ghost use mathlib.Core.Bool.{cond};
+ghost use Prim.Native.Nat.{_*_, _≤_};
+ghost use lib.Dec.{eqb};
+ghost use lib.ListN.{length};
+ghost use Rattle.cases.specs.Rows.{caseIn};
+ghost use Rattle.fillers.specs.CaseTables.{Tables};
+ghost use Rattle.semantics.specs.Operations.{orElse, levelsIn, valueFault, pairFault};
+ghost use Rattle.semantics.specs.Values.{pairCount};
+ghost use Rattle.checker.specs.Sets.{Proposed};
+ghost use Rattle.checker.specs.Checking.{valueFaultIn};
+
+// 13: the first pair whose byte says no value. Those below k say one.
+pub fn value_fault(values: &[u8], pairs: usize) -> Refusal
+    requires { ⌜ pairs ≤ length (now values) ⌝ }
+    ensures { λ r. ⌜ r ≡ valueFaultIn (now (values .entry)) pairs ⌝ }
+{
+    let mut k = 0;
+    while k < pairs {
+        let said = Value::of_byte(values[k]);
+        let fault = refuse(Value::refusal_number(said), k);
+        if fault.number != 0 {
+            return fault;
+        }
+        k += 1;
+    }
+    no_refusal()
+}
+
+// How many pairs are supported before the first that isn't.
+fn supported_pairs(pairs: usize, unsupported: Refusal) -> usize
+    ensures { λ r. ⌜ r ≡ cond (eqb (unsupported .number) 0) pairs (unsupported .place) ⌝ }
+{
+    if unsupported.number == 0 {
+        pairs
+    } else {
+        unsupported.place
+    }
+}
+
+// 14 and 15: the first pair with either.
+fn pair_fault(
+    counts: Counts,
+    rows: &[u16],
+    sets: &[u64],
+    values: &[u8],
+    valid: &[u64],
+    possible: &[u64],
+    levels: &[u8],
+) -> Refusal
+    requires { ⌜ Tables counts (now rows) (now sets) ⌝ }
+    requires { ⌜ Proposed counts (now values) (now valid) (now possible) ⌝ }
+    requires { ⌜ 2 * (counts .shapes * counts .nodes) ≤ length (now levels) ⌝ }
+    ensures { λ r. ⌜ r ≡ pairFault (caseIn counts (now (rows .entry))) (now (values .entry)) (levelsIn (pairCount (caseIn counts (now (rows .entry)))) (now (levels .entry))) ⌝ }
+{
+    let unsupported = support_fault(counts, rows, sets, values, valid, possible);
+    let supported = supported_pairs(counts.shapes * counts.nodes, unsupported);
+    let unjustified = level_fault(counts, rows, sets, valid, possible, levels, supported);
+    or_else(unjustified, unsupported)
+}
+
+// The first fault of the proposed values and levels, number 0 for none.
+pub fn check_pairs(
+    counts: Counts,
+    rows: &[u16],
+    sets: &[u64],
+    values: &[u8],
+    levels: &[u8],
+) -> Refusal
+    requires { ⌜ Tables counts (now rows) (now sets) ⌝ }
+    requires { ⌜ counts .shapes * counts .nodes ≤ length (now values) ⌝ }
+    requires { ⌜ 2 * (counts .shapes * counts .nodes) ≤ length (now levels) ⌝ }
+    ensures { λ r. ⌜ r ≡ orElse (valueFault (caseIn counts (now (rows .entry))) (now (values .entry))) (pairFault (caseIn counts (now (rows .entry))) (now (values .entry)) (levelsIn (pairCount (caseIn counts (now (rows .entry)))) (now (levels .entry)))) ⌝ }
+{
+    let fault = value_fault(values, counts.shapes * counts.nodes);
+    if fault.number != 0 {
+        return fault;
+    }
+    let mut valid = [0u64; 64];
+    let mut possible = [0u64; 64];
+    fill(counts, values, Value::VALID, &mut valid);
+    fill(counts, values, Value::OPEN, &mut possible);
+    pair_fault(counts, rows, sets, values, &valid, &possible, levels)
+}

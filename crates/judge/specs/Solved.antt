@@ -1,0 +1,61 @@
+-- Solving's equation: the answer and the final contents of the three tables, on refusal too; and its parts for a case that was read.
+-- Assumes nothing.
+use Prim.Native.Nat.{ℕ, _*_, _≤_}
+use mathlib.Core.Path.{_≡_}
+use mathlib.Core.List.{List}
+use lib.ListN.{length}
+use lib.Dec.{leb}
+use Rattle.cases.specs.Case.{Case}
+use Rattle.cases.specs.Reading.{noRefusal}
+use Rattle.cases.specs.declared.answers.Refusal.{Refusal}
+use Rattle.cases.specs.declared.counts.Counts.{Counts}
+use Rattle.semantics.specs.declared.answers.Solution.{Solution}
+use Rattle.semantics.specs.Solving.{rounds, solvedValues, solvedLevels}
+use Rattle.semantics.specs.Solving.{verdicts as verdictsOf}
+use Rattle.semantics.specs.Operations.{orElse, refuseUnless, written, levelBytes, solution, solveAnswer, solveValues, solveLevels, solveVerdicts}
+
+pub record SolvedAs (s values levels verdicts : List ℕ) (r : Solution) (values′ levels′ verdicts′ : List ℕ) : Type 0 where
+  pub answer : r ≡ solveAnswer s values levels verdicts
+  pub values-left : values′ ≡ solveValues s values levels verdicts
+  pub levels-left : levels′ ≡ solveLevels s values levels verdicts
+  pub verdicts-left : verdicts′ ≡ solveVerdicts s values levels verdicts
+
+-- with the refusal number alone
+pub record NumberedAs (s values levels verdicts : List ℕ) (number : ℕ) (values′ levels′ verdicts′ : List ℕ) : Type 0 where
+  pub answer : number ≡ solveAnswer s values levels verdicts .number
+  pub values-left : values′ ≡ solveValues s values levels verdicts
+  pub levels-left : levels′ ≡ solveLevels s values levels verdicts
+  pub verdicts-left : verdicts′ ≡ solveVerdicts s values levels verdicts
+
+-- ---- Its parts
+
+-- 10, 11 and 12, by the lengths of the tables
+abbrev pub shortSolve : Counts → ℕ → ℕ → ℕ → Refusal
+shortSolve counts values levels verdicts =
+    orElse (refuseUnless (leb (counts .shapes * counts .nodes) values) 10 (counts .shapes * counts .nodes))
+    (orElse (refuseUnless (leb (2 * (counts .shapes * counts .nodes)) levels) 11 (2 * (counts .shapes * counts .nodes)))
+    (refuseUnless (leb (counts .targets) verdicts) 12 (counts .targets)))
+
+-- "each count that it carries, rounds and strata included, is 0"
+abbrev pub refusedSolution : Refusal → Solution
+refusedSolution r = record { number = r .number; place = r .place; rounds = 0; valid = 0; undetermined = 0; sure = 0; «open» = 0; impossible = 0 }
+
+-- the tables are long enough
+pub record SolveRoom (counts : Counts) (values levels verdicts : List ℕ) : Type 0 where
+  pub value-room : counts .shapes * counts .nodes ≤ length values
+  pub level-room : 2 * (counts .shapes * counts .nodes) ≤ length levels
+  pub verdict-room : counts .targets ≤ length verdicts
+
+-- then nothing is refused: the tables begin with what solving writes, and the answer counts it
+pub record AssignmentWritten (c : Case) (values levels : List ℕ) (answer : ℕ) (values′ levels′ : List ℕ) : Type 0 where
+  pub counted : answer ≡ rounds c
+  pub values-left : values′ ≡ written noRefusal (solvedValues c) values
+  pub levels-left : levels′ ≡ written noRefusal (levelBytes (solvedLevels c)) levels
+
+pub record TablesWritten (c : Case) (values levels verdicts : List ℕ) (answer : ℕ) (values′ levels′ verdicts′ : List ℕ) : Type 0 where
+  pub assignment : AssignmentWritten c values levels answer values′ levels′
+  pub verdicts-left : verdicts′ ≡ written noRefusal (verdictsOf c) verdicts
+
+pub record CaseSolved (c : Case) (values levels verdicts : List ℕ) (r : Solution) (values′ levels′ verdicts′ : List ℕ) : Type 0 where
+  pub answer : r ≡ solution noRefusal c
+  pub tables : TablesWritten c values levels verdicts (r .rounds) values′ levels′ verdicts′

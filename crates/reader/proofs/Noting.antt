@@ -1,0 +1,121 @@
+-- Shapes noted in a table, and refusal 9 read off it. Assumes nothing.
+use Prim.Native.Nat.{ℕ, _+_, _*_, _≤_, _<_}
+use native.Mathlib.Numerals.{add-one}
+use native.Mathlib.Omega.{arith}
+use mathlib.Core.Path.{_≡_, refl, sym, ap, _∙_}
+use mathlib.Core.Logic.{inl}
+use mathlib.Core.List.{List, [], _∷_, append-assoc, append-nil}
+use lib.ListN.{length, getD, drop, drop-of-length-le}
+use lib.Seq.{drop-cons}
+use borrow.Author.Tests.{lt-ltb, le-ltb}
+use Rattle.fixpoint.proofs.Lists.{length-made, getD-made, made-more}
+use Rattle.cases.specs.declared.command.Command.{Command}
+use Rattle.cases.specs.declared.command.Command.the-variants.{Shape as ShapeCommand, Target as TargetCommand}
+use Rattle.cases.specs.declared.command.ShapeRule.{ShapeRule}
+use Rattle.cases.specs.declared.command.Target.{Target}
+use Rattle.cases.specs.declared.numbers.Shape.{Shape}
+use Rattle.cases.specs.declared.references.References.{References}
+use Rattle.cases.specs.declared.references.References.the-variants.{No, One, Two}
+use Rattle.cases.specs.Case.{references}
+use Rattle.cases.specs.Reading.{Named, namedAt, noRefusal, shapesNamed, unknownShape}
+use Rattle.cases.specs.References.{listed}
+use Rattle.reader.specs.Storing.{namedIn, NoteRoom, Noted}
+use Rattle.reader.proofs.Stores.{two, length-two, two-other, two-first, two-second}
+
+-- What noting no shape, one, and two leaves
+pub noted-none : {place n : ℕ} {t : List ℕ} → Noted [] place n t n t
+unfolding namedAt
+noted-none {n = n} {t = t} = record { counted = omega arith; noted = sym (append-nil (namedIn t n)); long = refl }
+
+pub noted-one : {place n shape : ℕ} {t : List ℕ} → 2 * n + 2 ≤ length t → Noted (shape ∷ []) place n t (n + 1) (two t (2 * n) shape place)
+unfolding namedIn namedAt
+noted-one {place} {n} {shape} {t} fits = record {
+  counted = refl;
+  noted =
+      made-more _ _ n _
+      (λ i h. rw (two-other t (2 * n) shape place (2 * i) (inl (omega arith)), two-other t (2 * n) shape place (2 * i + 1) (inl (omega arith))))
+      (rw (two-first t (2 * n) shape place fits, two-second t (2 * n) shape place fits));
+  long = length-two t (2 * n) shape place;
+}
+
+pub noted-then : {place n n₁ n₂ a b : ℕ} {t t₁ t₂ : List ℕ} → Noted (a ∷ []) place n t n₁ t₁ → Noted (b ∷ []) place n₁ t₁ n₂ t₂
+    → Noted (a ∷ b ∷ []) place n t n₂ t₂
+unfolding namedAt
+noted-then {n = n} {t = t} u v = record {
+  counted = omega (arith, u .counted, v .counted);
+  noted = v .noted ∙ rw (u .noted) (append-assoc (namedIn t n) _ _);
+  long = v .long ∙ u .long;
+}
+
+-- By the references of a rule, which are so many
+module _ {r : References} {n : ℕ} {t : List ℕ} where
+  pub room-one : {s : Shape} → r ≡ One s → NoteRoom (listed r) n t → 2 * n + 2 ≤ length t
+  room-one e h = let f = rw e at (h .fits) in omega arith
+
+  pub room-two : {s q : Shape} → r ≡ Two s q → NoteRoom (listed r) n t → 2 * n + 2 ≤ length t
+  room-two e h = let f = rw e at (h .fits) in omega arith
+
+  pub room-second : {s q : Shape} {place n₁ a : ℕ} {t₁ : List ℕ} → r ≡ Two s q → NoteRoom (listed r) n t → Noted (a ∷ []) place n t n₁ t₁ → 2 * n₁ + 2 ≤ length t₁
+  room-second e h u = let f = rw e at (h .fits) in omega (arith, u .counted, u .long)
+
+  module _ {place n′ : ℕ} {t′ : List ℕ} where
+    pub noted-of-one : {s : Shape} → r ≡ One s → Noted (s .0 ∷ []) place n t n′ t′ → Noted (listed r) place n t n′ t′
+    noted-of-one e u = rw e u
+
+    pub noted-of-two : {s q : Shape} {n₁ : ℕ} {t₁ : List ℕ} → r ≡ Two s q → Noted (s .0 ∷ []) place n t n₁ t₁ → Noted (q .0 ∷ []) place n₁ t₁ n′ t′
+        → Noted (listed r) place n t n′ t′
+    noted-of-two e u v = rw e (noted-then u v)
+
+pub noted-of-none : {r : References} {place n : ℕ} {t : List ℕ} → r ≡ No → Noted (listed r) place n t n t
+noted-of-none e = rw e noted-none
+
+-- By the command
+module _ {command : Command} {n : ℕ} {t : List ℕ} where
+  pub room-shape : {rule : ShapeRule} {l : List ℕ} → command ≡ ShapeCommand rule → l ≡ references rule → NoteRoom (shapesNamed command) n t → NoteRoom l n t
+  unfolding shapesNamed
+  room-shape e q h = rw q (rw e at h)
+
+  pub room-target : {g : Target} → command ≡ TargetCommand g → NoteRoom (shapesNamed command) n t → 2 * n + 2 ≤ length t
+  unfolding shapesNamed
+  room-target e h = let f = rw e at (h .fits) in omega arith
+
+  module _ {place n′ : ℕ} {t′ : List ℕ} where
+    pub noted-of-shape : {rule : ShapeRule} {l : List ℕ} → command ≡ ShapeCommand rule → l ≡ references rule → Noted l place n t n′ t′
+        → Noted (shapesNamed command) place n t n′ t′
+    unfolding shapesNamed
+    noted-of-shape e q u = rw e (rw q at u)
+
+    pub noted-of-target : {g : Target} → command ≡ TargetCommand g → Noted (g .shape .0 ∷ []) place n t n′ t′ → Noted (shapesNamed command) place n t n′ t′
+    unfolding shapesNamed
+    noted-of-target e u = rw e u
+
+-- a command that names no shape
+pub noted-of-other : {command other : Command} {place n : ℕ} {t : List ℕ} → command ≡ other → shapesNamed other ≡ [] → Noted (shapesNamed command) place n t n t
+noted-of-other e q = rw (e, q) noted-none
+
+-- Refusal 9, from the i-th noted shape on
+entry : List ℕ → ℕ → Named
+entry t i = record { shape = getD t (2 * i) 0; place = getD t (2 * i + 1) 0 }
+
+module _ (t : List ℕ) (n : ℕ) where
+  length-named : length (namedIn t n) ≡ n
+  unfolding namedIn
+  length-named = length-made _ n
+
+  named-drop : (i : ℕ) → i < n → drop i (namedIn t n) ≡ entry t i ∷ drop (i + 1) (namedIn t n)
+  unfolding namedIn entry
+  named-drop i h =
+      drop-cons (namedIn t n) i (entry t 0) (omega (arith, length-named)) ∙ rw (getD-made (entry t) n i (entry t 0) h, add-one i)
+
+module _ (t : List ℕ) (n shapes i : ℕ) where
+  pub unknown-here : i < n → shapes ≤ getD t (2 * i) 0 → unknownShape shapes (drop i (namedIn t n)) ≡ record { number = 9; place = getD t (2 * i + 1) 0 }
+  unfolding unknownShape entry
+  unknown-here h e = ap (unknownShape shapes) (named-drop t n i h) ∙ rw (le-ltb (getD t (2 * i) 0) shapes e)
+
+  pub unknown-later : i < n → getD t (2 * i) 0 < shapes → unknownShape shapes (drop i (namedIn t n)) ≡ unknownShape shapes (drop (i + 1) (namedIn t n))
+  unfolding unknownShape entry
+  unknown-later h e = ap (unknownShape shapes) (named-drop t n i h) ∙ rw (lt-ltb (getD t (2 * i) 0) shapes e)
+
+  pub unknown-none : n ≤ i → unknownShape shapes (drop i (namedIn t n)) ≡ noRefusal
+  unfolding unknownShape
+  unknown-none h = ap (unknownShape shapes) (drop-of-length-le (namedIn t n) {i = i} (omega (arith, length-named t n)))

@@ -1,0 +1,182 @@
+// What is at fault with a command, judged by what has been read before it: refusals 1 to 7 in their order.
+use cases::answers::Step;
+use cases::answers::Taken;
+use cases::command::Command;
+use cases::command::Row;
+use cases::command::ShapeRule;
+use cases::command::command_of;
+use cases::counts::Counts;
+use cases::counts::EDGE_LIMIT;
+use cases::counts::NODE_LIMIT;
+use cases::counts::PATH_LIMIT;
+use cases::counts::SHAPE_LIMIT;
+use cases::counts::TARGET_LIMIT;
+use cases::format::Operands;
+use cases::format::missing_number;
+use cases::format::read_operands;
+use cases::format::taken_of;
+use cases::numbers::Node;
+use cases::paths::Paths;
+use cases::paths::paths_of_path;
+use cases::paths::paths_of_shape;
+ghost use mathlib.Core.Path.{_≡_};
+ghost use Prim.Native.Nat.{_<_};
+ghost use mathlib.Core.Bool.{_&&_};
+ghost use lib.Dec.{ltb};
+ghost use lib.ListN.{length};
+ghost use Rattle.cases.specs.Case.{Case, countsOf};
+ghost use Rattle.fixpoint.specs.Lists.{all};
+ghost use Rattle.cases.specs.References.{listedPaths};
+ghost use Rattle.cases.specs.Reading.{inOrder, withinLimit, nodesKnown, shapeNodesKnown, pathsEarlier, leastPositive, shapeLeastPositive, judged, stepAt};
+
+// Whether a command of this group may come after one of the group `last`, 0 at the start: one 01 first, then the groups in their order.
+fn in_order(last: usize, group: usize) -> bool
+    ensures { λ r. ⌜ r ≡ inOrder last group ⌝ }
+{
+    if last == 0 {
+        return group == 1;
+    }
+    if group == 1 {
+        return false;
+    }
+    last <= group
+}
+
+fn within_limit(counts: Counts, command: Command) -> bool
+    ensures { λ r. ⌜ r ≡ withinLimit counts command ⌝ }
+{
+    match command {
+        Command::Nodes(n) => n <= NODE_LIMIT,
+        Command::Edge(_) => counts.edges < EDGE_LIMIT,
+        Command::Path(_) => counts.paths < PATH_LIMIT,
+        Command::Shape(_) => counts.shapes < SHAPE_LIMIT,
+        Command::Target(_) => counts.targets < TARGET_LIMIT,
+        Command::End => true,
+    }
+}
+
+// Whether both nodes are below the node count.
+fn both_known(a: Node, b: Node, nodes: usize) -> bool
+    ensures { λ r. ⌜ r ≡ ltb (a .0) nodes && ltb (b .0) nodes ⌝ }
+{
+    a.0 < nodes && b.0 < nodes
+}
+
+fn shape_nodes_known(nodes: usize, rule: ShapeRule) -> bool
+    ensures { λ r. ⌜ r ≡ shapeNodesKnown nodes rule ⌝ }
+{
+    match rule {
+        ShapeRule::Top => true,
+        ShapeRule::Node(a) => a.0 < nodes,
+        ShapeRule::And(_, _) => true,
+        ShapeRule::Or(_, _) => true,
+        ShapeRule::Not(_) => true,
+        ShapeRule::Same(_, _) => true,
+        ShapeRule::All(_, _) => true,
+        ShapeRule::AtLeast(_, _, _) => true,
+    }
+}
+
+fn nodes_known(counts: Counts, command: Command) -> bool
+    ensures { λ r. ⌜ r ≡ nodesKnown counts command ⌝ }
+{
+    match command {
+        Command::Nodes(_) => true,
+        Command::Edge(e) => both_known(e.subject, e.object, counts.nodes),
+        Command::Path(_) => true,
+        Command::Shape(rule) => shape_nodes_known(counts.nodes, rule),
+        Command::Target(t) => t.node.0 < counts.nodes,
+        Command::End => true,
+    }
+}
+
+// Whether each of the paths stands earlier.
+fn all_earlier(named: Paths, paths: usize) -> bool
+    ensures { λ r. ⌜ r ≡ all (listedPaths named) (λ p. ltb p paths) ⌝ }
+{
+    match named {
+        Paths::No => true,
+        Paths::One(p) => p.0 < paths,
+        Paths::Two(p, q) => p.0 < paths && q.0 < paths,
+    }
+}
+
+fn paths_earlier(counts: Counts, command: Command) -> bool
+    ensures { λ r. ⌜ r ≡ pathsEarlier counts command ⌝ }
+{
+    match command {
+        Command::Nodes(_) => true,
+        Command::Edge(_) => true,
+        Command::Path(rule) => all_earlier(paths_of_path(rule), counts.paths),
+        Command::Shape(rule) => all_earlier(paths_of_shape(rule), counts.paths),
+        Command::Target(_) => true,
+        Command::End => true,
+    }
+}
+
+fn shape_least_positive(rule: ShapeRule) -> bool
+    ensures { λ r. ⌜ r ≡ shapeLeastPositive rule ⌝ }
+{
+    match rule {
+        ShapeRule::Top => true,
+        ShapeRule::Node(_) => true,
+        ShapeRule::And(_, _) => true,
+        ShapeRule::Or(_, _) => true,
+        ShapeRule::Not(_) => true,
+        ShapeRule::Same(_, _) => true,
+        ShapeRule::All(_, _) => true,
+        ShapeRule::AtLeast(n, _, _) => 1 <= n,
+    }
+}
+
+fn least_positive(command: Command) -> bool
+    ensures { λ r. ⌜ r ≡ leastPositive command ⌝ }
+{
+    match command {
+        Command::Nodes(_) => true,
+        Command::Edge(_) => true,
+        Command::Path(_) => true,
+        Command::Shape(rule) => shape_least_positive(rule),
+        Command::Target(_) => true,
+        Command::End => true,
+    }
+}
+
+// Judges a command that is there whole: refusals 4 to 7.
+fn judge(counts: Counts, command: Command, row: Row, taken: Taken) -> Step
+    ensures { λ r. ⌜ ((c : Case) → countsOf c ≡ counts → r ≡ judged c command row taken) ⌝ }
+{
+    if !within_limit(counts, command) {
+        return Step::Refused(4);
+    }
+    if !nodes_known(counts, command) {
+        return Step::Refused(5);
+    }
+    if !paths_earlier(counts, command) {
+        return Step::Refused(6);
+    }
+    if !least_positive(command) {
+        return Step::Refused(7);
+    }
+    Step::Is(command, row, taken)
+}
+
+// Reads and judges the command that `part` starts with, after one of the group `last`.
+pub fn next(part: &[u8], last: usize, counts: Counts) -> Step
+    requires { ⌜ 0 < length (now part) ⌝ }
+    ensures { λ r. ⌜ ((c : Case) → countsOf c ≡ counts → r ≡ stepAt last c (now (part .entry))) ⌝ }
+{
+    let taken = taken_of(part[0]);
+    let group = taken.group;
+    if group == 0 {
+        return Step::Refused(1);
+    }
+    if !in_order(last, group) {
+        return Step::Refused(2);
+    }
+    let operands = read_operands(part);
+    let Operands::Complete(row) = operands else {
+        return Step::Refused(missing_number(operands));
+    };
+    judge(counts, command_of(group, row), row, taken)
+}

@@ -1,0 +1,4 @@
+// Reading: bytes to a case in a table of rows, or to a refusal with its number and place.
+pub mod faults;
+pub mod reading;
+pub mod storing;

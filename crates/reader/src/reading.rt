@@ -1,0 +1,125 @@
+// One walk over the input. Its invariant: the rows and counts hold the commands before `at`, none of them at fault, and what the whole
+// input comes to is what the walk comes to from there.
+use crate::faults::next;
+use crate::storing::note;
+use crate::storing::store;
+use cases::answers::Parsed;
+use cases::answers::Reading;
+use cases::answers::Refusal;
+use cases::answers::Step;
+use cases::answers::no_refusal;
+use cases::answers::number_of;
+use cases::command::Command;
+use cases::counts::Counts;
+use cases::counts::no_counts;
+ghost use mathlib.Core.Path.{_≡_};
+ghost use Prim.Native.Nat.{_*_, _≤_};
+ghost use lib.ListN.{length};
+ghost use Rattle.cases.specs.Reading.{reading, isEnd, unknownShape};
+ghost use Rattle.cases.specs.Rows.{Full};
+ghost use Rattle.reader.specs.Storing.{namedIn};
+ghost use Rattle.reader.specs.Parsing.{ParsedAs, refusedAs, endedAs};
+
+fn refused(number: usize, place: usize) -> Parsed
+    ensures { λ r. ⌜ r ≡ refusedAs number place ⌝ }
+{
+    Parsed {
+        refusal: Refusal { number, place },
+        counts: no_counts(),
+    }
+}
+
+// Refusal 9: the first noted shape operand that is not in the case.
+fn unknown_shape(shapes: usize, named: &[usize], count: usize) -> Refusal
+    requires { ⌜ 2 * count ≤ length (now named) ⌝ }
+    ensures { λ r. ⌜ r ≡ unknownShape shapes (namedIn (now (named .entry)) count) ⌝ }
+{
+    let mut i = 0;
+    while i < count {
+        if shapes <= named[2 * i] {
+            return Refusal {
+                number: 9,
+                place: named[2 * i + 1],
+            };
+        }
+        i += 1;
+    }
+    no_refusal()
+}
+
+// Once the end command is read: refusals 8 and 9, or the case. `end` is the offset after the end command.
+fn ended(bytes: usize, end: usize, counts: Counts, named: &[usize], count: usize) -> Parsed
+    requires { ⌜ 2 * count ≤ length (now named) ⌝ }
+    ensures { λ r. ⌜ r ≡ endedAs bytes end counts (namedIn (now (named .entry)) count) ⌝ }
+{
+    if end < bytes {
+        return refused(8, end);
+    }
+    let unknown = unknown_shape(counts.shapes, named, count);
+    let number = unknown.number;
+    if number != 0 {
+        return refused(number, unknown.place);
+    }
+    Parsed {
+        refusal: no_refusal(),
+        counts,
+    }
+}
+
+fn is_end(command: Command) -> bool
+    ensures { λ r. ⌜ r ≡ isEnd command ⌝ }
+{
+    match command {
+        Command::Nodes(_) => false,
+        Command::Edge(_) => false,
+        Command::Path(_) => false,
+        Command::Shape(_) => false,
+        Command::Target(_) => false,
+        Command::End => true,
+    }
+}
+
+// Reads a case into the rows.
+pub fn parse(case: &[u8], rows: &mut [u16]) -> Parsed
+    requires { ⌜ Full (now rows) ⌝ }
+    ensures { λ r. ⌜ ParsedAs (now (case .entry)) r (now (rows .exit)) ⌝ }
+{
+    let mut named = [0usize; 640];
+    let mut at = 0;
+    let mut last = 0;
+    let mut count = 0;
+    let mut counts = no_counts();
+    while at < case.len() {
+        let step = next(&case[at..], last, counts);
+        let Step::Is(command, row, taken) = step else {
+            return refused(number_of(step), at);
+        };
+        if is_end(command) {
+            return ended(case.len(), at + 1, counts, &named, count);
+        }
+        counts = store(command, row, counts, rows);
+        count = note(command, at, &mut named, count);
+        last = taken.group;
+        at += taken.width;
+    }
+    refused(3, at)
+}
+
+// Reads a case of any bytes and any length.
+pub fn read(case: &[u8]) -> Reading
+    ensures { λ r. ⌜ r ≡ reading (now (case .entry)) ⌝ }
+{
+    let mut rows = [0u16; 5360];
+    let parsed = parse(case, &mut rows);
+    let refusal = parsed.refusal;
+    let counts = parsed.counts;
+    Reading {
+        number: refusal.number,
+        place: refusal.place,
+        nodes: counts.nodes,
+        edges: counts.edges,
+        paths: counts.paths,
+        shapes: counts.shapes,
+        targets: counts.targets,
+    }
+}

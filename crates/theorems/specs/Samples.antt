@@ -1,0 +1,140 @@
+-- The starred samples of document 01, "Samples": what each says, and one table of them. Assumes nothing.
+use Prim.Native.Nat.{ℕ, zero, suc, _<_}
+use mathlib.Core.Path.{_≡_}
+use mathlib.Core.List.{List, [], _∷_}
+use lib.ListN.{length, getD}
+use Rattle.semantics.specs.declared.answers.Solution.{Solution}
+use Rattle.semantics.specs.declared.answers.Checked.{Checked}
+use Rattle.semantics.specs.declared.answers.Ranked.{Ranked}
+use Rattle.semantics.specs.Values
+use Rattle.semantics.specs.Stability
+use Rattle.semantics.specs.Operations
+
+-- ---- What a sample says; the first argument is the case in bytes
+
+pub data Sample : Type 0 where
+  -- what solving answers and leaves in the three tables
+  solves : List ℕ → Solution → (values levels verdicts : List ℕ) → Sample
+  -- what checking answers for a proposal
+  checks : List ℕ → (values levels : List ℕ) → Checked → Sample
+  -- what ranking answers and leaves in the table
+  ranks : List ℕ → Ranked → (strata : List ℕ) → Sample
+  -- the values of a stable assignment, which every stable assignment has
+  onlyStable : List ℕ → (values : List ℕ) → Sample
+
+-- a table as it is lent: n bytes of EE, which nothing writes
+unfoldable pub lent : ℕ → List ℕ
+lent zero = []
+lent (suc n) = 0xee ∷ lent n
+
+-- levels below 256 as bytes, two each, low first
+unfoldable pub twoBytes : List ℕ → List ℕ
+twoBytes [] = []
+twoBytes (x ∷ l) = x ∷ 0 ∷ twoBytes l
+
+unfoldable pub solved : List ℕ → List ℕ → List ℕ → List ℕ → Solution × List ℕ × List ℕ × List ℕ
+solved s vt lt dt = (
+  Operations.solveAnswer s vt lt dt,
+  Operations.solveValues s vt lt dt,
+  Operations.solveLevels s vt lt dt,
+  Operations.solveVerdicts s vt lt dt,
+)
+
+unfoldable pub ranked : List ℕ → List ℕ → Ranked × List ℕ
+ranked s table = (Operations.rankAnswer s table, Operations.rankStrata s table)
+
+pub record OnlyStable (s values : List ℕ) : Type 0 where
+  pub is-stable : Stability.StableAssignment (Operations.caseOf s) values
+  pub no-other : (v : List ℕ) → Stability.StableAssignment (Operations.caseOf s) v → (k : ℕ) → k < Values.pairCount (Operations.caseOf s) → getD v k 0 ≡ getD values k 0
+
+-- the tables to be written are lent as long as they have to be
+abbrev pub Passes : Sample → Type 0
+Passes (solves s answer values levels verdicts) =
+    solved s (lent (length values)) (lent (length (twoBytes levels))) (lent (length verdicts))
+    ≡ (answer, values, twoBytes levels, verdicts)
+Passes (checks s values levels answer) = Operations.checkAnswer s values (twoBytes levels) ≡ answer
+Passes (ranks s answer strata) = ranked s (lent (length strata)) ≡ (answer, strata)
+Passes (onlyStable s values) = OnlyStable s values
+
+abbrev pub AllPass : List Sample → Type 0
+AllPass [] = Unit {0}
+AllPass (x ∷ l) = Passes x × AllPass l
+
+-- ---- The cases
+
+unfoldable pub ring : List ℕ
+ring =
+    0x01 ∷ 0x04 ∷ 0x00
+    ∷ 0x02 ∷ 0x00 ∷ 0x01 ∷ 0x00 ∷ 0x00 ∷ 0x00
+    ∷ 0x02 ∷ 0x00 ∷ 0x02 ∷ 0x00 ∷ 0x03 ∷ 0x00
+    ∷ 0x02 ∷ 0x00 ∷ 0x03 ∷ 0x00 ∷ 0x02 ∷ 0x00
+    ∷ 0x02 ∷ 0x01 ∷ 0x00 ∷ 0x00 ∷ 0x00 ∷ 0x00
+    ∷ 0x10 ∷ 0x00 ∷ 0x10 ∷ 0x01
+    ∷ 0x20 ∷ 0x27 ∷ 0x01 ∷ 0x01 ∷ 0x00 ∷ 0x27 ∷ 0x01 ∷ 0x00 ∷ 0x03 ∷ 0x23 ∷ 0x01 ∷ 0x02 ∷ 0x24 ∷ 0x03
+    ∷ 0x30 ∷ 0x03 ∷ 0x01 ∷ 0x00 ∷ 0x30 ∷ 0x03 ∷ 0x02 ∷ 0x00
+    ∷ 0xff ∷ []
+
+-- one node, with an edge to itself, and these shapes
+unfoldable pub oneNode : List ℕ → List ℕ
+oneNode shapes = 0x01 ∷ 0x01 ∷ 0x00 ∷ 0x02 ∷ 0x00 ∷ 0x00 ∷ 0x00 ∷ 0x00 ∷ 0x00 ∷ shapes
+
+unfoldable pub clash : List ℕ
+clash = oneNode (0x24 ∷ 0x01 ∷ 0x24 ∷ 0x00 ∷ 0xff ∷ [])
+
+unfoldable pub notItself : List ℕ
+notItself = oneNode (0x24 ∷ 0x00 ∷ 0xff ∷ [])
+
+unfoldable pub orItself : List ℕ
+orItself = oneNode (0x23 ∷ 0x00 ∷ 0x00 ∷ 0xff ∷ [])
+
+-- properties 0 and 1 both lead from node 0 to node 1; path 2 is the union
+unfoldable pub twoPaths : List ℕ
+twoPaths =
+    0x01 ∷ 0x02 ∷ 0x00
+    ∷ 0x02 ∷ 0x00 ∷ 0x00 ∷ 0x00 ∷ 0x01 ∷ 0x00
+    ∷ 0x02 ∷ 0x01 ∷ 0x00 ∷ 0x00 ∷ 0x01 ∷ 0x00
+    ∷ 0x10 ∷ 0x00 ∷ 0x10 ∷ 0x01 ∷ 0x12 ∷ 0x00 ∷ 0x01
+    ∷ 0x20 ∷ 0x27 ∷ 0x01 ∷ 0x02 ∷ 0x00 ∷ 0x27 ∷ 0x02 ∷ 0x02 ∷ 0x00
+    ∷ 0xff ∷ []
+
+-- nodes 0 and 1 are live and node 2 is not; no edge has the path's property
+unfoldable pub noFillers : List ℕ
+noFillers =
+    0x01 ∷ 0x03 ∷ 0x00
+    ∷ 0x02 ∷ 0x00 ∷ 0x00 ∷ 0x00 ∷ 0x01 ∷ 0x00
+    ∷ 0x10 ∷ 0x01
+    ∷ 0x20 ∷ 0x26 ∷ 0x00 ∷ 0x00
+    ∷ 0xff ∷ []
+
+-- ---- The table
+
+-- solved: rounds, valid and undetermined pairs, targets sure, open and impossible
+abbrev solution : (rounds valid undetermined sure opened impossible : ℕ) → Solution
+solution r v u s o i =
+    record { number = 0; place = 0; rounds = r; valid = v; undetermined = u; sure = s; «open» = o; impossible = i }
+
+-- checked, with no undetermined pair and no valid target: number and place
+abbrev checked : (number place : ℕ) → Checked
+checked n p = record { number = n; place = p; undetermined = 0; valid = 0 }
+
+-- in the document's order
+unfoldable pub starred : List Sample
+starred =
+    solves ring (solution 2 10 0 1 0 1)
+    (2 ∷ 2 ∷ 2 ∷ 2 ∷ 2 ∷ 0 ∷ 0 ∷ 0 ∷ 0 ∷ 2 ∷ 0 ∷ 0 ∷ 2 ∷ 2 ∷ 0 ∷ 0 ∷ 0 ∷ 0 ∷ 2 ∷ 2 ∷ [])
+    (1 ∷ 1 ∷ 1 ∷ 1 ∷ 2 ∷ 0 ∷ 0 ∷ 0 ∷ 0 ∷ 4 ∷ 0 ∷ 0 ∷ 3 ∷ 5 ∷ 0 ∷ 0 ∷ 0 ∷ 0 ∷ 1 ∷ 1 ∷ [])
+    (2 ∷ 0 ∷ [])
+    ∷ checks ring
+    (2 ∷ 2 ∷ 2 ∷ 2 ∷ 2 ∷ 0 ∷ 0 ∷ 0 ∷ 0 ∷ 2 ∷ 2 ∷ 2 ∷ 2 ∷ 2 ∷ 2 ∷ 2 ∷ 0 ∷ 0 ∷ 0 ∷ 0 ∷ [])
+    (1 ∷ 1 ∷ 1 ∷ 1 ∷ 2 ∷ 0 ∷ 0 ∷ 0 ∷ 0 ∷ 4 ∷ 9 ∷ 9 ∷ 3 ∷ 5 ∷ 5 ∷ 5 ∷ 0 ∷ 0 ∷ 0 ∷ 0 ∷ [])
+    (checked 15 14)
+    ∷ solves clash (solution 1 0 2 0 0 0) (1 ∷ 1 ∷ []) (1 ∷ 1 ∷ []) []
+    ∷ checks clash (2 ∷ 0 ∷ []) (1 ∷ 0 ∷ []) (checked 0 0)
+    ∷ checks clash (0 ∷ 2 ∷ []) (0 ∷ 1 ∷ []) (checked 0 0)
+    ∷ checks clash (2 ∷ 2 ∷ []) (1 ∷ 1 ∷ []) (checked 14 0)
+    ∷ ranks clash (record { number = 17; place = 0; strata = 0 }) (lent 2)
+    ∷ onlyStable notItself (1 ∷ [])
+    ∷ solves orItself (solution 1 0 0 0 0 0) (0 ∷ []) (0 ∷ []) []
+    ∷ solves twoPaths (solution 2 3 0 0 0 0) (2 ∷ 2 ∷ 2 ∷ 0 ∷ 0 ∷ 0 ∷ []) (1 ∷ 1 ∷ 2 ∷ 0 ∷ 0 ∷ 0 ∷ []) []
+    ∷ solves noFillers (solution 2 4 0 0 0 0) (2 ∷ 2 ∷ 0 ∷ 2 ∷ 2 ∷ 0 ∷ []) (1 ∷ 1 ∷ 0 ∷ 1 ∷ 1 ∷ 0 ∷ []) []
+    ∷ []

@@ -1,0 +1,2 @@
+-- What the tables of values and verdicts hold.
+pub mod Tables
