@@ -157,7 +157,7 @@ fn agree(what: &str, same: bool) {
 fn ground(case: &Case) -> String {
     let mut text = String::new();
     for (s, shape) in case.shapes.iter().enumerate() {
-        for a in (0..case.nodes).filter(|a| case.live(*a)) {
+        for a in 0..case.nodes {
             for (own, other) in [("v", "p"), ("p", "v")] {
                 let atom = |t: usize, b: usize| format!("{own}({t},{b})");
                 let atoms = |p: usize, t: usize, by: &str| case.fillers(p, a).iter().map(|b| atom(t, *b)).collect::<Vec<_>>().join(by);

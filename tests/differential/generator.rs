@@ -85,7 +85,7 @@ pub enum Layout {
     Ring,
     Hub,
     Loops,
-    /// among the first half of the nodes, so that the rest is not live
+    /// among the first half of the nodes, so that no edge leads to the rest
     Half,
 }
 

@@ -59,7 +59,7 @@ pub fn random_levels(r: &mut Random, case: &Case) -> Vec<usize> {
 fn random_values(r: &mut Random, case: &Case) -> Vec<u8> {
     let weights = r.pick(&[[1, 1, 1], [1, 0, 1], [4, 1, 1], [1, 4, 1], [1, 1, 4]]);
     let draw: Vec<u8> = (0..3u8).flat_map(|v| vec![v; weights[v as usize]]).collect();
-    (0..case.pairs()).map(|i| if case.live(i % case.nodes) { r.pick(&draw) } else { 0 }).collect()
+    (0..case.pairs()).map(|_| r.pick(&draw)).collect()
 }
 
 /// Another stable assignment, looked for from a random start: T becomes C(C(T)) until it rests or the tries are over.

@@ -1,4 +1,4 @@
-//! The samples of document 01, held to the library alone; every expected number is the document's.
+//! The samples of document 01, as document 02 has changed them, held to the library alone; every expected number is the documents'.
 
 use crate::calls::*;
 use crate::proposals::level_bytes;
@@ -100,7 +100,7 @@ pub fn run() -> usize {
     held.same("union", solved(&union).1, digits("22 20 00"));
 
     let all = hex("01 03 00, 02 00 00 00 01 00, 10 05, 20, 26 00 00, FF");
-    held.same("all over no fillers", solved(&all).1, digits("220 220"));
+    held.same("all over no fillers", solved(&all).1, digits("222 222"));
 
     held.same("empty input", judge_read(&[]), [3, 0, 0, 0, 0, 0, 0]);
     let empty = hex("01 00 00 FF");
@@ -126,6 +126,6 @@ pub fn run() -> usize {
     held.same("9, a target", judge_read(&hex("01 01 00, 20, 24 01, 30 02 00 00, FF")), refused(9, 6));
     held.same("9, a shape first", judge_read(&hex("01 01 00, 20, 22 00 02, 30 02 00 00, FF")), refused(9, 4));
     held.same("a target's node, before 9", judge_read(&hex("01 01 00, 20, 22 00 02, 30 02 01 00, FF")), refused(5, 7));
-    held.same("a node that only a 21 names", solved(&hex("01 02 00, 02 00 00 00 00 00, 21 01 00, FF")).1, vec![0, 0]);
+    held.same("a node that only a 21 names", solved(&hex("01 02 00, 02 00 00 00 00 00, 21 01 00, FF")).1, vec![0, 2]);
     held.0
 }

@@ -42,7 +42,7 @@ pub fn shape_facts(k: usize, case: &Case) -> String {
 
 pub fn facts(k: usize, case: &Case) -> String {
     // not is a word of clingo's
-    format!("case({k}).\n{}", common(k, case).replace(",not(", ",deny("))
+    format!("case({k}).\nnodes({k},{}).\n{}", case.nodes, common(k, case).replace(",not(", ",deny("))
 }
 
 pub fn prolog_facts(k: usize, case: &Case) -> String {

@@ -78,6 +78,14 @@ fn solve_others(clash: &[u8]) {
     );
 }
 
+// Nodes that stand in no edge: a top, an all over no fillers, and a node, which is a target too.
+fn solve_unlinked() {
+    solve_small(
+        b"fittings on the shelf",
+        b"\x01\x02\x00\x10\x00\x20\x26\x00\x00\x21\x01\x00\x30\x01\x01\x00\x30\x02\x00\x00\xff",
+    );
+}
+
 // Each table one byte short, with the later ones short too.
 fn solve_short(ring: &[u8]) {
     let mut values = [0u8; 20];
@@ -151,6 +159,7 @@ fn main() {
     let clash = b"\x01\x01\x00\x02\x00\x00\x00\x00\x00\x24\x01\x24\x00\xff";
     solve_ring(ring);
     solve_others(clash);
+    solve_unlinked();
     solve_short(ring);
     check_proposals(ring, clash);
     check_unfit(clash);

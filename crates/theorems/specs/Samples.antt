@@ -97,7 +97,7 @@ twoPaths =
     ∷ 0x20 ∷ 0x27 ∷ 0x01 ∷ 0x02 ∷ 0x00 ∷ 0x27 ∷ 0x02 ∷ 0x02 ∷ 0x00
     ∷ 0xff ∷ []
 
--- nodes 0 and 1 are live and node 2 is not; no edge has the path's property
+-- node 2 stands in no edge and is live as well; no edge has the path's property
 unfoldable pub noFillers : List ℕ
 noFillers =
     0x01 ∷ 0x03 ∷ 0x00
@@ -136,5 +136,5 @@ starred =
     ∷ onlyStable notItself (1 ∷ [])
     ∷ solves orItself (solution 1 0 0 0 0 0) (0 ∷ []) (0 ∷ []) []
     ∷ solves twoPaths (solution 2 3 0 0 0 0) (2 ∷ 2 ∷ 2 ∷ 0 ∷ 0 ∷ 0 ∷ []) (1 ∷ 1 ∷ 2 ∷ 0 ∷ 0 ∷ 0 ∷ []) []
-    ∷ solves noFillers (solution 2 4 0 0 0 0) (2 ∷ 2 ∷ 0 ∷ 2 ∷ 2 ∷ 0 ∷ []) (1 ∷ 1 ∷ 0 ∷ 1 ∷ 1 ∷ 0 ∷ []) []
+    ∷ solves noFillers (solution 2 6 0 0 0 0) (2 ∷ 2 ∷ 2 ∷ 2 ∷ 2 ∷ 2 ∷ []) (1 ∷ 1 ∷ 1 ∷ 1 ∷ 1 ∷ 1 ∷ []) []
     ∷ []
