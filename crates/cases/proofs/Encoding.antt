@@ -28,7 +28,8 @@ use Rattle.cases.specs.declared.format.Format.{Format}
 use Rattle.cases.specs.Case.{Case, emptyCase, countsOf, pathRule, pathsOfPath, pathsOfShape, references}
 use Rattle.cases.specs.Counts.{nodeLimit}
 use Rattle.cases.specs.Format.{formatOf, groupOf, widthOf, takenOf, numberAt, rowOf, complete, operandsOf, pathRuleOf, shapeRuleOf, commandOf, commandAt}
-use Rattle.cases.specs.Reading.{inOrder, shapeNodesKnown, pathPathsEarlier, shapePathsEarlier, shapeLeastPositive, judged, stepAt, noRefusal, Named}
+use Rattle.cases.specs.Faults.{inOrder, shapeNodesKnown, pathPathsEarlier, shapePathsEarlier, shapeLeastPositive}
+use Rattle.cases.specs.Reading.{judged, stepAt, noRefusal, Named}
 use Rattle.cases.specs.Reading.{Progress, start, add, shapesNamed, namedAt, pass, unknownShape, afterEnd, Outcome, refused, finish, isEnd, stepped, walk, outcome}
 use Rattle.cases.specs.Sound.{Sound, Limited}
 use Rattle.cases.specs.Encoding.{twoBytes, encodeEdge, encodePath, encodeShape, encodeTarget, encodeAll, encode, pathByte, shapeByte, OneByteEach, Readable}

@@ -12,7 +12,8 @@ use Rattle.cases.specs.declared.format.Operands.{Operands}
 use Rattle.cases.specs.declared.format.Operands.the-variants.{Complete, Cut}
 use Rattle.cases.specs.Case.{Case, countsOf}
 use Rattle.cases.specs.Format.{groupOf, operandsOf, missing, commandAt}
-use Rattle.cases.specs.Reading.{Named, Progress, start, unless, judged, inOrder, withinLimit, nodesKnown, pathsEarlier, leastPositive, stepAt, numberOf}
+use Rattle.cases.specs.Faults.{inOrder, withinLimit, nodesKnown, pathsEarlier, leastPositive}
+use Rattle.cases.specs.Reading.{Named, Progress, start, unless, judged, stepAt, numberOf}
 use Rattle.cases.specs.Reading.{unknownShape, afterEnd, refused, finish, isEnd, stepped, walk, outcome, isReadingNumber}
 use Rattle.cases.proofs.Steps.{step-cases}
 

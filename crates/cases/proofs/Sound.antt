@@ -25,8 +25,9 @@ use Rattle.cases.specs.declared.answers.Taken.{Taken}
 use Rattle.cases.specs.Case.{Case, emptyCase, countsOf, pathRule, references}
 use Rattle.cases.specs.Counts.{nodeLimit, edgeLimit, pathLimit, shapeLimit, targetLimit}
 use Rattle.cases.specs.Format.{groupOf, takenOf, rowOf, edgeOf, pathRuleOf, shapeRuleOf, targetOf, commandOf, commandAt}
-use Rattle.cases.specs.Reading.{inOrder, withinLimit, shapeNodesKnown, nodesKnown, pathPathsEarlier, shapePathsEarlier, pathsEarlier}
-use Rattle.cases.specs.Reading.{shapeLeastPositive, leastPositive, stepAt, Named, Progress, start, add, shapesNamed, namedAt, pass}
+use Rattle.cases.specs.Faults.{inOrder, withinLimit, shapeNodesKnown, nodesKnown, pathPathsEarlier, shapePathsEarlier, pathsEarlier}
+use Rattle.cases.specs.Faults.{shapeLeastPositive, leastPositive}
+use Rattle.cases.specs.Reading.{stepAt, Named, Progress, start, add, shapesNamed, namedAt, pass}
 use Rattle.cases.specs.Reading.{unknownShape, afterEnd, refused, finish, isEnd, stepped, walk, outcome}
 use Rattle.cases.specs.Sound.{Sound, Limited}
 use Rattle.cases.proofs.Steps.{step-shows, step-cases}

@@ -15,7 +15,8 @@ use Rattle.cases.specs.declared.command.Command.{Command}
 use Rattle.cases.specs.declared.command.Row.{Row}
 use Rattle.cases.specs.Case.{Case, countsOf}
 use Rattle.cases.specs.Format.{groupOf, widthOf, takenOf, rowOf, complete, operandsOf, missing, commandAt}
-use Rattle.cases.specs.Reading.{unless, inOrder, withinLimit, nodesKnown, pathsEarlier, leastPositive, judged, stepAt}
+use Rattle.cases.specs.Faults.{inOrder, withinLimit, nodesKnown, pathsEarlier, leastPositive}
+use Rattle.cases.specs.Reading.{unless, judged, stepAt}
 
 -- operands are missing where the command isn't whole
 missing-none : (s : List ℕ) → eqb (missing (operandsOf s)) 0 ≡ complete s

@@ -3,6 +3,7 @@ pub mod Case
 pub mod Counts
 pub mod Format
 pub mod References
+pub mod Faults
 pub mod Reading
 pub mod Sound
 pub mod Encoding

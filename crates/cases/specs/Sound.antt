@@ -8,7 +8,7 @@ use lib.Dec.{ltb}
 use Rattle.fixpoint.specs.Lists.{all}
 use Rattle.cases.specs.Case.{Case, references, pathRule}
 use Rattle.cases.specs.Counts.{nodeLimit, edgeLimit, pathLimit, shapeLimit, targetLimit}
-use Rattle.cases.specs.Reading.{shapeNodesKnown, pathPathsEarlier, shapePathsEarlier, shapeLeastPositive}
+use Rattle.cases.specs.Faults.{shapeNodesKnown, pathPathsEarlier, shapePathsEarlier, shapeLeastPositive}
 
 -- operands name what is there
 pub record Sound (c : Case) : Type 0 where

@@ -15,7 +15,8 @@ use Rattle.bitset.specs.Words.{member, Row}
 use Rattle.bitset.proofs.Members.{rows-apart}
 use Rattle.cases.specs.Case.{Case, shapeRule, references}
 use Rattle.cases.specs.Counts.{wordsOf, sizeOf}
-use Rattle.cases.specs.Reading.{shapeLeastPositive, noRefusal}
+use Rattle.cases.specs.Faults.{shapeLeastPositive}
+use Rattle.cases.specs.Reading.{noRefusal}
 use Rattle.cases.specs.Rows.{caseIn, shapeIn}
 use Rattle.cases.specs.declared.answers.Refusal.{Refusal}
 use Rattle.cases.specs.declared.command.ShapeRule.{ShapeRule}

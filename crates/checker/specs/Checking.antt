@@ -7,7 +7,7 @@ use lib.ListN.{length, getD}
 use lib.Dec.{eqb, leb}
 use Rattle.bitset.specs.Words.{member}
 use Rattle.cases.specs.Case.{Case, references, pathsOfShape}
-use Rattle.cases.specs.Reading.{shapeLeastPositive}
+use Rattle.cases.specs.Faults.{shapeLeastPositive}
 use Rattle.cases.specs.Rows.{caseIn}
 use Rattle.cases.specs.declared.command.ShapeRule.{ShapeRule}
 use Rattle.cases.specs.declared.counts.Counts.{Counts}

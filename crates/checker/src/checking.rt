@@ -1,6 +1,6 @@
 // The first fault of a proposed assignment with levels: 13, then pair by pair 14 and 15. Every pair is looked at for 14 first: 15 can then
 // only stand below the first 14, and the pairs there are supported.
-use crate::levels::level_fault;
+use crate::justification::level_fault;
 use crate::support::support_fault;
 use crate::thresholds::fill;
 use cases::answers::Refusal;

@@ -1,5 +1,5 @@
 // Checking: whether a proposed assignment with levels is accepted, pair by pair.
 pub mod checking;
-pub mod levels;
+pub mod justification;
 pub mod support;
 pub mod thresholds;

@@ -47,7 +47,8 @@ module _ {s : List ℕ} {p : Parsed} {rows : List ℕ} (values levels : List ℕ
     passed : (p .refusal .number ≡ 0) × ((leb (p .counts .shapes * p .counts .nodes) (length values) ≡ true) × (leb (2 * (p .counts .shapes * p .counts .nodes)) (length levels) ≡ true))
     passed =
         orElse-none (p .refusal) (shortCheck (p .counts) (length values) (length levels)) (λ z. z, λ z. z)
-        (orElse-none _ _ (unless-none (leb (p .counts .shapes * p .counts .nodes) (length values)) 10 _ (omega arith)) (unless-none (leb (2 * (p .counts .shapes * p .counts .nodes)) (length levels)) 11 _ (omega arith))) .0
+        (orElse-none _ _ (unless-none (leb (p .counts .shapes * p .counts .nodes) (length values)) 10 _ (omega arith))
+        (unless-none (leb (2 * (p .counts .shapes * p .counts .nodes)) (length levels)) 11 _ (omega arith))) .0
         (rw (e, q) at none)
 
     pub values-there : p .counts .shapes * p .counts .nodes ≤ length values

@@ -42,7 +42,8 @@ module _ {s : List ℕ} {p : Parsed} {rows : List ℕ} (table : List ℕ) {short
   module _ (none : r .number ≡ 0) where
     pub strata-there : p .counts .shapes ≤ length table
     strata-there =
-        leb-true _ _ (orElse-none (p .refusal) (refuseUnless (leb (p .counts .shapes) (length table)) 16 (p .counts .shapes)) (λ z. z, λ z. z) (unless-none (leb (p .counts .shapes) (length table)) 16 _ (omega arith)) .0 (rw (e, q) at none) .1)
+        leb-true _ _ (orElse-none (p .refusal) (refuseUnless (leb (p .counts .shapes) (length table)) 16 (p .counts .shapes)) (λ z. z, λ z. z)
+        (unless-none (leb (p .counts .shapes) (length table)) 16 _ (omega arith)) .0 (rw (e, q) at none) .1)
 
     pub rank-read : {a : Ranked} {ranks : Ranks} {table′ : List ℕ} → RankedAs (caseIn (p .counts) rows) table ranks table′ → a ≡ rankedBy (ranks .refusal) (ranks .strata)
         → CaseRanked s table a table′

@@ -70,7 +70,8 @@ module _ {s : List ℕ} {p : Parsed} {rows : List ℕ} (values levels verdicts :
     passed =
         orElse-none (p .refusal) (shortSolve (p .counts) (length values) (length levels) (length verdicts)) (λ z. z, λ z. z)
         (orElse-none _ _ (unless-none (leb pairs (length values)) 10 pairs (omega arith))
-        (orElse-none _ _ (unless-none (leb (2 * pairs) (length levels)) 11 (2 * pairs) (omega arith)) (unless-none (leb (p .counts .targets) (length verdicts)) 12 (p .counts .targets) (omega arith)))) .0
+        (orElse-none _ _ (unless-none (leb (2 * pairs) (length levels)) 11 (2 * pairs) (omega arith))
+        (unless-none (leb (p .counts .targets) (length verdicts)) 12 (p .counts .targets) (omega arith)))) .0
         (rw (e, q) at none)
 
     pub solve-room : SolveRoom (p .counts) values levels verdicts

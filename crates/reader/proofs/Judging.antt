@@ -17,7 +17,8 @@ use Rattle.cases.specs.declared.format.Operands.{Operands}
 use Rattle.cases.specs.declared.format.Operands.the-variants.{Complete, Cut}
 use Rattle.cases.specs.Case.{Case, countsOf}
 use Rattle.cases.specs.Format.{groupOf, takenOf, operandsOf, missing, commandOf, commandAt}
-use Rattle.cases.specs.Reading.{inOrder, judged, stepAt}
+use Rattle.cases.specs.Faults.{inOrder}
+use Rattle.cases.specs.Reading.{judged, stepAt}
 use Rattle.cases.proofs.Formats.{passed, failed, cut, completed}
 
 module _ (last : ℕ) (c : Case) (s : List ℕ) {taken : Taken} (t : taken ≡ takenOf (getD s 0 0)) where

@@ -25,7 +25,8 @@ use Rattle.cases.specs.declared.command.ShapeRule.the-variants.{Top, Node, And,
 use Rattle.cases.specs.declared.counts.Counts.{Counts}
 use Rattle.cases.specs.Case.{Case, emptyCase, countsOf, references}
 use Rattle.cases.specs.Format.{groupOf, widthOf, takenOf, rowOf, commandAt}
-use Rattle.cases.specs.Reading.{Named, Outcome, Progress, withinLimit, stepAt, numberOf, noRefusal, start, add, shapesNamed, pass, unknownShape, afterEnd, refused, finish, isEnd, stepped, walk, outcome, reading}
+use Rattle.cases.specs.Faults.{withinLimit}
+use Rattle.cases.specs.Reading.{Named, Outcome, Progress, stepAt, numberOf, noRefusal, start, add, shapesNamed, pass, unknownShape, afterEnd, refused, finish, isEnd, stepped, walk, outcome, reading}
 use Rattle.cases.specs.Rows.{caseIn, Full}
 use Rattle.cases.proofs.InRows.{counts-in, limited-fit}
 use Rattle.cases.proofs.Sound.{outcome-sound, outcome-limited}

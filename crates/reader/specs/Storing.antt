@@ -12,7 +12,8 @@ use Rattle.cases.specs.declared.command.Row.{Row}
 use Rattle.cases.specs.declared.counts.Counts.{Counts}
 use Rattle.cases.specs.Counts.{edgeLimit, pathLimit, shapeLimit, targetLimit}
 use Rattle.cases.specs.Format.{edgeOf, pathRuleOf, shapeRuleOf, targetOf}
-use Rattle.cases.specs.Reading.{Named, add, namedAt, withinLimit}
+use Rattle.cases.specs.Faults.{withinLimit}
+use Rattle.cases.specs.Reading.{Named, add, namedAt}
 use Rattle.cases.specs.Rows.{caseIn, Full}
 
 -- ---- Storing a command

@@ -27,7 +27,8 @@ ghost use lib.ListN.{length};
 ghost use Rattle.cases.specs.Case.{Case, countsOf};
 ghost use Rattle.fixpoint.specs.Lists.{all};
 ghost use Rattle.cases.specs.References.{listedPaths};
-ghost use Rattle.cases.specs.Reading.{inOrder, withinLimit, nodesKnown, shapeNodesKnown, pathsEarlier, leastPositive, shapeLeastPositive, judged, stepAt};
+ghost use Rattle.cases.specs.Faults.{inOrder, withinLimit, nodesKnown, shapeNodesKnown, pathsEarlier, leastPositive, shapeLeastPositive};
+ghost use Rattle.cases.specs.Reading.{judged, stepAt};
 
 // Whether a command of this group may come after one of the group `last`, 0 at the start: one 01 first, then the groups in their order.
 fn in_order(last: usize, group: usize) -> bool

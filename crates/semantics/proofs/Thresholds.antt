@@ -10,9 +10,10 @@ use lib.ListN.{length, length-map, List·getD-eq-default}
 use lib.Dec.{eqb, leb, ltb, leb·zero}
 use borrow.Author.Tests.{leb-true, le-leb, lt-ltb, lt-leb, leb-false, eqb-true, eq-eqb}
 use Rattle.fixpoint.specs.Lists.{any, all, keep, count, smallest, sort, nthSmallest, nthLargest}
-use Rattle.fixpoint.proofs.Lists.{tests, bool-cases, bool-ext, leb-min, ltb-max, all-where, length-keep, leb-same, all-map, count-map, count-keep, count-not, count-all, length-sort, smallest-at-least, largest-below, nthSmallest-below, nthLargest-at-least}
+use Rattle.fixpoint.proofs.Lists.{tests, bool-cases, bool-ext, leb-min, ltb-max, all-where, length-keep, leb-same, all-map}
+use Rattle.fixpoint.proofs.Lists.{count-map, count-keep, count-not, count-all, length-sort, smallest-at-least, largest-below, nthSmallest-below, nthLargest-at-least}
 use Rattle.cases.specs.Case.{Case, references}
-use Rattle.cases.specs.Reading.{shapeLeastPositive}
+use Rattle.cases.specs.Faults.{shapeLeastPositive}
 use Rattle.cases.specs.declared.command.ShapeRule.{ShapeRule}
 use Rattle.cases.specs.declared.command.ShapeRule.the-variants.{Top, Node, And, Or, Not, Same, All, AtLeast}
 use Rattle.semantics.specs.Paths.{fillers, sameFillers}
@@ -40,7 +41,8 @@ leb-deny w a lo hi =
     (λ e. rw e (le-leb w (2 - a) (omega (arith, tests))))
     (bool-cases (leb (3 - w) a))
 
-pub value-at-least : (c : Case) (v : ℕ → ℕ → ℕ) (r : ShapeRule) (a w : ℕ) → shapeLeastPositive r ≡ true → 1 ≤ w → w ≤ 2 → leb w (ruleValue c v r a) ≡ holds c (λ s b. leb w (v s b)) (λ s b. leb (3 - w) (v s b)) r a
+pub value-at-least : (c : Case) (v : ℕ → ℕ → ℕ) (r : ShapeRule) (a w : ℕ) → shapeLeastPositive r ≡ true → 1 ≤ w → w ≤ 2
+    → leb w (ruleValue c v r a) ≡ holds c (λ s b. leb w (v s b)) (λ s b. leb (3 - w) (v s b)) r a
 unfolding ruleValue holds
 value-at-least c v Top a w n lo hi = le-leb w 2 hi
 value-at-least c v (Node b) a w n lo hi = leb-test (eqb (b .0) a) w lo hi

@@ -30,7 +30,8 @@ module _ (c : Case) (sound : Sound c) (u : Undenied c) (v : List ℕ) (st : Stab
   next-valid : nextSet c (possibleSet c v) (validSet c v) ≡ validSet c v
   next-valid = rw (st .closed .lower-closed) (closure-fixed (pairCount c) (nextSet c) (rule-system c) (possibleSet c v))
 
-  stage-valid : (r : ℕ) → ((j : ℕ) → stratum c (shapeOf c j) < r → has (possibleSet c v) j ≡ true → has (validSet c v) j ≡ true) → (n k : ℕ) → stratum c (shapeOf c k) < suc r → has (stage (pairCount c) (nextSet c (validSet c v)) n) k ≡ true → has (validSet c v) k ≡ true
+  stage-valid : (r : ℕ) → ((j : ℕ) → stratum c (shapeOf c j) < r → has (possibleSet c v) j ≡ true → has (validSet c v) j ≡ true) → (n k : ℕ)
+      → stratum c (shapeOf c k) < suc r → has (stage (pairCount c) (nextSet c (validSet c v)) n) k ≡ true → has (validSet c v) k ≡ true
   unfolding stage
   stage-valid r lower zero k b e = absurd (false≢true (sym (has-none (pairCount c) k) ∙ e))
   stage-valid r lower (suc n) k b e =

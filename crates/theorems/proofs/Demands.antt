@@ -23,13 +23,15 @@ use Rattle.semantics.specs.Levels.{justifiedAt, accepted}
 use Rattle.semantics.specs.Stability.{StableAssignment, EveryStable, nextSet, validSet, possibleSet}
 use Rattle.semantics.specs.Solving.{solvedT, solvedP, solvedValues, solvedLevels, targetValues, verdicts, rounds, levelsOf}
 use Rattle.semantics.specs.Denial.{Undenied}
-use Rattle.semantics.specs.Operations.{caseOf, solveRefusal, solveAnswer, solveValues, solveLevels, solveVerdicts, checkRefusal, valueFault, pairFault, checkAnswer, levelsIn, levelBytes, solution, solveFault, checked, checkFault}
+use Rattle.semantics.specs.Operations.{caseOf, solveRefusal, solveAnswer, solveValues, solveLevels, solveVerdicts, checkRefusal, valueFault}
+use Rattle.semantics.specs.Operations.{pairFault, checkAnswer, levelsIn, levelBytes, solution, solveFault, checked, checkFault}
 use Rattle.semantics.proofs.Pairs.{pair-below}
 use Rattle.semantics.proofs.Kernel.{rule-system}
 use Rattle.semantics.proofs.Levels.{accepted-stable, stable-accepted, levels-small, levels-length}
 use Rattle.semantics.proofs.Solved.{solved-valued, solved-length, solved-stable, solved-valid-set, solved-possible-set, valid-exactly, violated-exactly, rounds-at-most}
 use Rattle.semantics.proofs.Undenied.{only-solved}
-use Rattle.semantics.proofs.Refusing.{orElse-none, unless-none, refuse-none, short-none, first-none, counted-none, written-none, written-at, written-refused, length-levelBytes, levels-read-back, levelBytes-bytes}
+use Rattle.semantics.proofs.Refusing.{orElse-none, unless-none, refuse-none, short-none, first-none, counted-none}
+use Rattle.semantics.proofs.Refusing.{written-none, written-at, written-refused, length-levelBytes, levels-read-back, levelBytes-bytes}
 use Rattle.theorems.specs.Demands.{Reads, SolvedCase, Untouched, LeadingWritten, AcceptedLevels, targetPair, RoundsCounted}
 
 pub case-sound : (s : List ℕ) → Sound (caseOf s)
@@ -43,7 +45,8 @@ case-limited s = outcome-limited s
 -- ---- Demand 1: a fit case with tables long enough is solved; a refusal writes nothing; otherwise the named entries are written and no more
 
 -- solving refuses nothing exactly where the input reads and the tables are long enough
-solve-none : (s vt lt dt : List ℕ) → (solveAnswer s vt lt dt .number ≡ 0) ↔ (Reads s × ((pairCount (caseOf s) ≤ length vt) × ((2 * pairCount (caseOf s) ≤ length lt) × (length (caseOf s .targets) ≤ length dt))))
+solve-none : (s vt lt dt : List ℕ)
+    → (solveAnswer s vt lt dt .number ≡ 0) ↔ (Reads s × ((pairCount (caseOf s) ≤ length vt) × ((2 * pairCount (caseOf s) ≤ length lt) × (length (caseOf s .targets) ≤ length dt))))
 unfolding solveAnswer solution solveRefusal solveFault
 solve-none s vt lt dt =
     let N = pairCount (caseOf s) in
@@ -52,7 +55,8 @@ solve-none s vt lt dt =
     (orElse-none _ _ (short-none 11 (2 * N) lt (omega arith))
     (short-none 12 (length (caseOf s .targets)) dt (omega arith))))
 
-pub solve-refuses-no-fit-case : (s vt lt dt : List ℕ) → Reads s → pairCount (caseOf s) ≤ length vt → 2 * pairCount (caseOf s) ≤ length lt → length (caseOf s .targets) ≤ length dt → SolvedCase s vt lt dt
+pub solve-refuses-no-fit-case : (s vt lt dt : List ℕ) → Reads s → pairCount (caseOf s) ≤ length vt → 2 * pairCount (caseOf s) ≤ length lt
+    → length (caseOf s .targets) ≤ length dt → SolvedCase s vt lt dt
 solve-refuses-no-fit-case s vt lt dt r hv hl hd = record { number-zero = solve-none s vt lt dt .1 (r, (hv, (hl, hd))) }
 
 pub refused-solve-writes-nothing : (s vt lt dt : List ℕ) → (solveAnswer s vt lt dt .number ≡ 0 → ⊥) → Untouched s vt lt dt
@@ -82,7 +86,8 @@ solve-writes-leading s vt lt dt h =
 
 -- ---- Demand 2: what checking takes
 
-accepted-each : (c : Case) (v l : List ℕ) → (((k : ℕ) → k < pairCount c → isValue v k ≡ true) × ((k : ℕ) → k < pairCount c → (supportedAt c v k ≡ true) × (justifiedAt c v l k ≡ true))) ↔ (accepted c v l ≡ true)
+accepted-each : (c : Case) (v l : List ℕ)
+    → (((k : ℕ) → k < pairCount c → isValue v k ≡ true) × ((k : ℕ) → k < pairCount c → (supportedAt c v k ≡ true) × (justifiedAt c v l k ≡ true))) ↔ (accepted c v l ≡ true)
 unfolding accepted supported valued
 accepted-each c v l =
     let N = pairCount c in
@@ -99,7 +104,8 @@ accepted-each c v l =
     )
 
 -- checking refuses nothing exactly where the input reads, the tables are long enough and what they hold is accepted
-check-none : (s vt lt : List ℕ) → (checkAnswer s vt lt .number ≡ 0) ↔ (Reads s × ((pairCount (caseOf s) ≤ length vt) × ((2 * pairCount (caseOf s) ≤ length lt) × (accepted (caseOf s) vt (levelsIn (pairCount (caseOf s)) lt) ≡ true))))
+check-none : (s vt lt : List ℕ)
+    → (checkAnswer s vt lt .number ≡ 0) ↔ (Reads s × ((pairCount (caseOf s) ≤ length vt) × ((2 * pairCount (caseOf s) ≤ length lt) × (accepted (caseOf s) vt (levelsIn (pairCount (caseOf s)) lt) ≡ true))))
 unfolding checkAnswer checked checkRefusal checkFault valueFault pairFault
 check-none s vt lt =
     let c = caseOf s in
@@ -114,11 +120,13 @@ check-none s vt lt =
     (first-none N _ (λ k h. orElse-none _ _ (unless-none (supportedAt c vt k) 14 k (omega arith)) (unless-none (justifiedAt c vt l k) 15 k (omega arith)))))
     (accepted-each c vt l))))
 
-pub check-accepts-exactly : (s vt lt : List ℕ) → Reads s → pairCount (caseOf s) ≤ length vt → 2 * pairCount (caseOf s) ≤ length lt → (checkAnswer s vt lt .number ≡ 0) ↔ (accepted (caseOf s) vt (levelsIn (pairCount (caseOf s)) lt) ≡ true)
+pub check-accepts-exactly : (s vt lt : List ℕ) → Reads s → pairCount (caseOf s) ≤ length vt → 2 * pairCount (caseOf s) ≤ length lt
+    → (checkAnswer s vt lt .number ≡ 0) ↔ (accepted (caseOf s) vt (levelsIn (pairCount (caseOf s)) lt) ≡ true)
 check-accepts-exactly s vt lt r hv hl = (λ e. check-none s vt lt .0 e .1 .1 .1, λ h. check-none s vt lt .1 (r, (hv, (hl, h))))
 
 -- the levels of solving's rule are taken, whatever follows them in the table
-stable-taken : (s vt later : List ℕ) → Reads s → pairCount (caseOf s) ≤ length vt → StableAssignment (caseOf s) vt → checkAnswer s vt (levelBytes (levelsOf (caseOf s) (validSet (caseOf s) vt) (possibleSet (caseOf s) vt)) ++ later) .number ≡ 0
+stable-taken : (s vt later : List ℕ) → Reads s → pairCount (caseOf s) ≤ length vt → StableAssignment (caseOf s) vt
+    → checkAnswer s vt (levelBytes (levelsOf (caseOf s) (validSet (caseOf s) vt) (possibleSet (caseOf s) vt)) ++ later) .number ≡ 0
 stable-taken s vt later r hv st =
     let c = caseOf s in
     let l = levelsOf c (validSet c vt) (possibleSet c vt) in
@@ -221,7 +229,8 @@ module _ (s vt lt dt : List ℕ) (solved : SolvedCase s vt lt dt) where
   target-impossible-exactly i h = rw (← target-value i h) (violated-exactly (caseOf s) _ (target-below (caseOf s) (case-sound s) i h))
 
   -- else open
-  pub target-else-open : (i : ℕ) → i < length (caseOf s .targets) → (EveryStable (caseOf s) (targetPair (caseOf s) i) 2 → ⊥) → (EveryStable (caseOf s) (targetPair (caseOf s) i) 0 → ⊥) → getD (solveVerdicts s vt lt dt) i 0 ≡ 1
+  pub target-else-open : (i : ℕ) → i < length (caseOf s .targets) → (EveryStable (caseOf s) (targetPair (caseOf s) i) 2 → ⊥)
+      → (EveryStable (caseOf s) (targetPair (caseOf s) i) 0 → ⊥) → getD (solveVerdicts s vt lt dt) i 0 ≡ 1
   unfolding valued isValue
   target-else-open i h sure impossible =
       let c = caseOf s in

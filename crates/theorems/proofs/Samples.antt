@@ -12,6 +12,7 @@ use Rattle.fixpoint.specs.Sets
 use Rattle.fixpoint.specs.Stages
 use Rattle.cases.specs.Case
 use Rattle.cases.specs.Format
+use Rattle.cases.specs.Faults
 use Rattle.cases.specs.Reading
 use Rattle.semantics.specs.Paths
 use Rattle.semantics.specs.Values
@@ -43,7 +44,7 @@ unfolding starred ring oneNode clash notItself orItself twoPaths noFillers lent 
     Case.emptyCase Case.countsOf Case.pathRule Case.shapeRule Case.pathsOfPath Case.pathsOfShape Case.references
     Format.formatOf Format.widthOf Format.takenOf Format.numberAt Format.rowOf Format.complete Format.operandsOf Format.pathRuleOf Format.shapeRuleOf
     Format.commandOf Format.commandAt
-    Reading.pathPathsEarlier Reading.shapePathsEarlier Reading.judged Reading.shapeNodesKnown Reading.stepAt Reading.start Reading.add
+    Faults.pathPathsEarlier Faults.shapePathsEarlier Reading.judged Faults.shapeNodesKnown Reading.stepAt Reading.start Reading.add
     Reading.shapesNamed Reading.namedAt Reading.pass Reading.unknownShape Reading.afterEnd Reading.finish Reading.stepped Reading.walk
     Reading.outcome
     Paths.live Paths.linked Paths.ruleFills Paths.fillsWithin Paths.fills Paths.fillers

@@ -24,4 +24,10 @@ read-operands-spec =
     (λ c κs. search needs)
     (λ c κs. search needs)
     (λ c. omega (arith, c .before .before .before .before .before .before .before .before .before .shared-slice-known .given 0))
-    (λ c. rw (← c .before .before .before .before .before .before .before .format-of .ensures, c .before .before .number-at .ensures, c .before .number-at2 .ensures, c .number-at3 .ensures) (search (le-leb, needs))))
+    (λ c.
+    rw (
+      ← c .before .before .before .before .before .before .before .format-of .ensures,
+      c .before .before .number-at .ensures,
+      c .before .number-at2 .ensures,
+      c .number-at3 .ensures,
+    ) (search (le-leb, needs))))

@@ -15,7 +15,10 @@ write-levels-requires : tie.Need-write-levels-requires
 write-levels-requires c κs = (search (sets-made, needs), (search needs, (search needs, search needs)))
 
 returns : tie.Need-returns
-returns c = assignment-written _ _ (c .before .before .before .before .before .before .before .before .before .before .before .before .before .before .before .solve-sets .ensures) _ _ (c .before .before .before .before .before .before .before .before .write-levels .ensures) (c .before .before .write-values .ensures)
+returns c =
+    assignment-written _ _
+    (c .before .before .before .before .before .before .before .before .before .before .before .before .before .before .before .solve-sets .ensures) _ _
+    (c .before .before .before .before .before .before .before .before .write-levels .ensures) (c .before .before .write-values .ensures)
 
 pub write-assignment-spec : {M : Type 1} → statement M
 write-assignment-spec =

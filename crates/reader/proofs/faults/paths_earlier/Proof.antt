@@ -1,5 +1,5 @@
 -- `reader::faults::paths_earlier` meets its contract: each arm answers as the definition does for that variant. Assumes nothing.
-use Rattle.cases.specs.Reading.{pathPathsEarlier, shapePathsEarlier}
+use Rattle.cases.specs.Faults.{pathPathsEarlier, shapePathsEarlier}
 use borrow.Author.Needs.{needs}
 use Rattle.reader.proofs.faults.paths_earlier.Statement.{statement}
 use Rattle.reader.proofs.faults.paths_earlier.Tie as tie

@@ -1,6 +1,6 @@
 -- `reader::faults::shape_nodes_known` meets its contract: each arm answers as the definition does for that variant. Assumes nothing.
 use borrow.Author.Needs.{needs}
-use Rattle.cases.specs.Reading.{shapeNodesKnown}
+use Rattle.cases.specs.Faults.{shapeNodesKnown}
 use Rattle.reader.proofs.faults.shape_nodes_known.Statement.{statement}
 use Rattle.reader.proofs.faults.shape_nodes_known.Tie as tie
 

@@ -46,10 +46,21 @@ note-requires : tie.Need-note-requires Inv-loop μ-loop
 note-requires c κs = search note-room
 
 add-at : tie.Need-add-at Inv-loop μ-loop
-add-at c = omega (arith, c .before .before .before .before .before .before .before .before .before .before .before .before .before .before .before .before .before .before .before .before .good, taken-fits (c .before .before .before .before .before .before .before .before .before .before .before .before .before .before .before .before .loop .inv .0) (c .before .before .before .before .before .before .before .before .before .before .before .before .before .before .before .loop-test .taken) (c .before .before .before .before .before .before .before .before .before .before .before .before .before .next .ensures) (c .before .before .before .before .before .before .before .before .before .before .before .step .given .1))
+add-at c =
+    let after-step = c .before .before .before .before .before .before .before .before .before .before .before in
+    let after-next = after-step .before .before in
+    let tested = after-next .before .before in
+    let turn = tested .before in
+    let entry = turn .before .before .before .before in
+    omega (arith, entry .good, taken-fits (turn .loop .inv .0) (tested .loop-test .taken) (after-next .next .ensures) (after-step .step .given .1))
 
 loop-less : tie.Need-loop-less Inv-loop μ-loop
-loop-less c = omega (arith, taken-some (c .before .before .before .before .before .before .before .before .before .before .before .before .before .before .before .before .loop .inv .0) (c .before .before .before .before .before .before .before .before .before .before .before .before .before .before .before .loop-test .taken) (c .before .before .before .before .before .before .before .before .before .before .before .before .before .next .ensures) (c .before .before .before .before .before .before .before .before .before .before .before .step .given .1))
+loop-less c =
+    let after-step = c .before .before .before .before .before .before .before .before .before .before .before in
+    let after-next = after-step .before .before in
+    let tested = after-next .before .before in
+    let turn = tested .before in
+    omega (arith, taken-some (turn .loop .inv .0) (tested .loop-test .taken) (after-next .next .ensures) (after-step .step .given .1))
 
 loop-again : tie.Need-loop-again Inv-loop μ-loop
 loop-again c = (search going-more, omega arith)

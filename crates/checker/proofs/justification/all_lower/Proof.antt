@@ -1,11 +1,11 @@
--- `checker::levels::all_lower` meets its contract. The invariant: the levels at the nodes of the first i words are low. Assumes nothing.
+-- `checker::justification::all_lower` meets its contract. The invariant: the levels at the nodes of the first i words are low. Assumes nothing.
 use Prim.Native.Nat.{_-_}
 use native.Mathlib.Omega.{arith}
 use borrow.Author.Needs.{needs}
 use Rattle.checker.specs.Sets.{isLow}
 use Rattle.checker.proofs.Lowered.{PassedTo, asked-row, passed-none, passed-more, passed-not, passed-done}
-use Rattle.checker.proofs.levels.all_lower.Statement.{statement}
-use Rattle.checker.proofs.levels.all_lower.Tie as tie
+use Rattle.checker.proofs.justification.all_lower.Statement.{statement}
+use Rattle.checker.proofs.justification.all_lower.Tie as tie
 
 abbrev Inv-loop : tie.InvT-loop
 Inv-loop sets row levels bound size s i₀ i = PassedTo (isLow levels bound size (s .0)) sets row (size .words) i

@@ -1,7 +1,7 @@
--- `checker::levels::is_lower` meets its contract. Assumes nothing.
+-- `checker::justification::is_lower` meets its contract. Assumes nothing.
 use borrow.Author.Needs.{needs}
-use Rattle.checker.proofs.levels.is_lower.Statement.{statement}
-use Rattle.checker.proofs.levels.is_lower.Tie as tie
+use Rattle.checker.proofs.justification.is_lower.Statement.{statement}
+use Rattle.checker.proofs.justification.is_lower.Tie as tie
 
 returns : tie.Need-returns
 returns c = cc

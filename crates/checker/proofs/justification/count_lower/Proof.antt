@@ -1,11 +1,11 @@
--- `checker::levels::count_lower` meets its contract. The invariant: n counts the nodes of the first i words. Assumes nothing.
+-- `checker::justification::count_lower` meets its contract. The invariant: n counts the nodes of the first i words. Assumes nothing.
 use Prim.Native.Nat.{_-_}
 use native.Mathlib.Omega.{arith}
 use borrow.Author.Needs.{needs}
 use Rattle.checker.specs.Sets.{isLow}
 use Rattle.checker.proofs.Lowered.{PassingTo, asked-common, passing-none, passing-more, passing-ones, passing-fits, passing-done}
-use Rattle.checker.proofs.levels.count_lower.Statement.{statement}
-use Rattle.checker.proofs.levels.count_lower.Tie as tie
+use Rattle.checker.proofs.justification.count_lower.Statement.{statement}
+use Rattle.checker.proofs.justification.count_lower.Tie as tie
 
 abbrev Inv-loop : tie.InvT-loop
 Inv-loop sets row set levels bound size s n₀ i₀ n i = PassingTo (isLow levels bound size (s .0)) sets row set (s .0) (size .words) i n

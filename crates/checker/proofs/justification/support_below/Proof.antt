@@ -1,4 +1,4 @@
--- `checker::levels::support_below` meets its contract: each arm's tests are those of its rule. Assumes nothing.
+-- `checker::justification::support_below` meets its contract: each arm's tests are those of its rule. Assumes nothing.
 use native.Mathlib.Omega.{arith}
 use mathlib.Core.Path.{refl}
 use borrow.Author.Needs.{needs}
@@ -7,8 +7,8 @@ use Rattle.semantics.proofs.Kernel.{first-of, second-of}
 use Rattle.semantics.specs.Levels.{supportBelow}
 use Rattle.cases.specs.Case.{references, pathsOfShape}
 use Rattle.checker.proofs.Justified.{both-hold, first-fails, first-holds, second-decides, levels-there, fillers-below, below-free, below-and, below-or, below-all, below-least}
-use Rattle.checker.proofs.levels.support_below.Statement.{statement}
-use Rattle.checker.proofs.levels.support_below.Tie as tie
+use Rattle.checker.proofs.justification.support_below.Statement.{statement}
+use Rattle.checker.proofs.justification.support_below.Tie as tie
 
 is-lower-requires : tie.Need-is-lower-requires
 unfolding references

@@ -1,10 +1,10 @@
--- `checker::levels::lower_word` meets its contract. The invariant: the nodes outside `rest` are sorted out. Assumes nothing.
+-- `checker::justification::lower_word` meets its contract. The invariant: the nodes outside `rest` are sorted out. Assumes nothing.
 use native.Mathlib.Omega.{arith}
 use borrow.Author.Needs.{needs}
 use Rattle.checker.specs.Sets.{isLow}
 use Rattle.checker.proofs.Lowered.{sorted-base, sorted-fits, SortedBut, sorted-none, sorted-node, sorted-more, sorted-done}
-use Rattle.checker.proofs.levels.lower_word.Statement.{statement}
-use Rattle.checker.proofs.levels.lower_word.Tie as tie
+use Rattle.checker.proofs.justification.lower_word.Statement.{statement}
+use Rattle.checker.proofs.justification.lower_word.Tie as tie
 
 abbrev Inv-loop : tie.InvT-loop
 Inv-loop word i levels bound size s lower₀ rest₀ lower rest = SortedBut rest (isLow levels bound size (s .0)) word i lower

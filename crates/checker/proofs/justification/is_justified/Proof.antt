@@ -1,10 +1,10 @@
--- `checker::levels::is_justified` meets its contract: the sets tell the value of the pair. Assumes nothing.
+-- `checker::justification::is_justified` meets its contract: the sets tell the value of the pair. Assumes nothing.
 use native.Mathlib.Omega.{arith}
 use borrow.Author.Needs.{needs}
 use Rattle.checker.proofs.Justified.{justified-valid, justified-open, justified-violated}
 use Rattle.checker.proofs.Supported.{some-node, pair-row, node-fits}
-use Rattle.checker.proofs.levels.is_justified.Statement.{statement}
-use Rattle.checker.proofs.levels.is_justified.Tie as tie
+use Rattle.checker.proofs.justification.is_justified.Statement.{statement}
+use Rattle.checker.proofs.justification.is_justified.Tie as tie
 
 div-is-member : tie.Need-div-is-member
 div-is-member c = search (some-node, arith)

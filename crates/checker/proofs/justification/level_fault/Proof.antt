@@ -1,10 +1,10 @@
--- `checker::levels::level_fault` meets its contract. The invariant: the pairs below k are justified, if they are supported. Assumes nothing.
+-- `checker::justification::level_fault` meets its contract. The invariant: the pairs below k are justified, if they are supported. Assumes nothing.
 use Prim.Native.Nat.{_-_}
 use native.Mathlib.Omega.{arith}
 use borrow.Author.Needs.{needs}
 use Rattle.checker.proofs.Justified.{JustifiedTo, justified-none, justified-more, justified-first, justified-all}
-use Rattle.checker.proofs.levels.level_fault.Statement.{statement}
-use Rattle.checker.proofs.levels.level_fault.Tie as tie
+use Rattle.checker.proofs.justification.level_fault.Statement.{statement}
+use Rattle.checker.proofs.justification.level_fault.Tie as tie
 
 abbrev Inv-loop : tie.InvT-loop
 Inv-loop counts rows sets valid possible levels pairs k₀ k = JustifiedTo counts rows valid possible levels pairs k

@@ -1,9 +1,9 @@
--- `checker::levels::level_at` meets its contract: bytes are below 256, so that the sum fits. Assumes nothing.
+-- `checker::justification::level_at` meets its contract: bytes are below 256, so that the sum fits. Assumes nothing.
 use native.Mathlib.Omega.{arith}
 use borrow.Author.Needs.{needs}
 use Rattle.checker.specs.Sets.{levelAt}
-use Rattle.checker.proofs.levels.level_at.Statement.{statement}
-use Rattle.checker.proofs.levels.level_at.Tie as tie
+use Rattle.checker.proofs.justification.level_at.Statement.{statement}
+use Rattle.checker.proofs.justification.level_at.Tie as tie
 
 returns : tie.Need-returns
 unfolding levelAt

@@ -1,8 +1,8 @@
--- `checker::levels::is_low_member` meets its contract. Assumes nothing.
+-- `checker::justification::is_low_member` meets its contract. Assumes nothing.
 use borrow.Author.Needs.{needs}
 use Rattle.checker.proofs.Justified.{both-hold, first-fails}
-use Rattle.checker.proofs.levels.is_low_member.Statement.{statement}
-use Rattle.checker.proofs.levels.is_low_member.Tie as tie
+use Rattle.checker.proofs.justification.is_low_member.Statement.{statement}
+use Rattle.checker.proofs.justification.is_low_member.Tie as tie
 
 returns : tie.Need-returns
 returns c = search both-hold

@@ -1,10 +1,10 @@
--- `checker::levels::suffices` meets its contract. Assumes nothing.
+-- `checker::justification::suffices` meets its contract. Assumes nothing.
 use native.Mathlib.Omega.{arith}
 use borrow.Author.Needs.{needs}
 use Rattle.checker.proofs.Justified.{levels-fit, suffices-never, suffices-if}
 use Rattle.checker.proofs.Supported.{some-node, shape-small, rule-fits}
-use Rattle.checker.proofs.levels.suffices.Statement.{statement}
-use Rattle.checker.proofs.levels.suffices.Tie as tie
+use Rattle.checker.proofs.justification.suffices.Statement.{statement}
+use Rattle.checker.proofs.justification.suffices.Tie as tie
 
 div-t10 : tie.Need-div-t10
 div-t10 c = search (some-node, arith)
