@@ -13,35 +13,14 @@ mod reference;
 #[allow(dead_code)]
 #[path = "../tests/solver/facts.rs"]
 mod facts;
+mod families;
 
 use facts::shape_facts;
-use generator::*;
+use families::*;
 use interface::*;
 use reference::{Case, Shape};
 use std::process::{Command, Stdio};
 use std::time::{Duration, Instant};
-
-// ---- The cases
-
-fn family(name: &str, n: usize, seed: u64) -> Vec<u8> {
-    let r = &mut Random(seed);
-    bytes(&match name {
-        "random" => {
-            let size = Size { nodes: n, edges: 8 * n, order: Order::Any, layout: Layout::Scattered, nots: 3, grounds: 3, ..full(r) };
-            random_case(r, &size)
-        }
-        "positive chain" => positive_chain(n, 31),
-        "denial chain" => denial_chain(n, 32),
-        "both chains" => both_chains(n, 17, 15),
-        "open chain" => open_chain(n, 15, 17),
-        "open beside denials" => open_beside_denials(n, 17, 15),
-        "open after denials" => open_after_denials(n, 17, 15),
-        "dense, star" => dense_star(r, n),
-        _ => deep_paths(r, n, &[0x13, 0x13, 0x14]),
-    })
-}
-
-const FAMILIES: [&str; 9] = ["random", "positive chain", "denial chain", "both chains", "open chain", "open beside denials", "open after denials", "dense, star", "deep paths"];
 
 // ---- The judge
 
@@ -58,18 +37,9 @@ impl Tables {
     }
 }
 
-/// The median of repeated calls, in seconds: at least five, and more until a tenth of a second has passed.
-fn median(mut call: impl FnMut()) -> f64 {
-    let (start, mut times) = (Instant::now(), Vec::new());
-    while times.len() < 5 || (start.elapsed() < Duration::from_millis(100) && times.len() < 2000) {
-        let one = Instant::now();
-        call();
-        times.push(one.elapsed().as_secs_f64());
-        if one.elapsed() > Duration::from_secs(3) {
-            break;
-        }
-    }
-    times.sort_by(f64::total_cmp);
+/// The median of repeated calls, in seconds.
+fn median(call: impl FnMut()) -> f64 {
+    let times = times(call);
     times[times.len() / 2]
 }
 
@@ -202,14 +172,6 @@ fn prolog(case: &Case) -> String {
 
 // ---- The table
 
-fn time(seconds: f64) -> String {
-    match seconds {
-        s if s < 1e-3 => format!("{:.1} µs", s * 1e6),
-        s if s < 1.0 => format!("{:.2} ms", s * 1e3),
-        s => format!("{s:.2} s"),
-    }
-}
-
 fn main() {
     let words: Vec<String> = std::env::args().skip(1).collect();
     let word = |name: &str| words.iter().position(|w| w == name).and_then(|i| words.get(i + 1));
@@ -237,8 +199,7 @@ fn main() {
     println!("|---|---|---|---|---|---|---|---|---|---|---|---|---|---|---|---|---|");
     for name in FAMILIES {
         for &n in &sizes {
-            let seeds = if name == "random" { 1..=3 } else { 1..=1 };
-            for seed in seeds {
+            for seed in 1..=seeds(name) {
                 let bytes = family(name, n, seed);
                 let case = reference::read(&bytes).expect("a sound case");
                 let mut t = Tables::new();

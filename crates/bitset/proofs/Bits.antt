@@ -15,7 +15,7 @@ use lib.Count.{ones, ones-cat, trailingZeros, under}
 use borrow.Author.Tests.{eqb-true, eqb-false, eq-eqb, ne-eqb, ltb-true, lt-ltb, le-ltb}
 use Rattle.fixpoint.specs.Lists.{from, upTo, count}
 use Rattle.fixpoint.proofs.Lists.{upTo-snoc, count-append, bool-cases, bool-ext, lt-cases}
-use Rattle.bitset.specs.Words.{bit, WithBit, WithBitIf, Without, WithoutBit, Lowest, FirstBits}
+use Rattle.bitset.specs.Words.{bit, WithBit, WithBitIf, Without, WithoutBit, Lowest, BitsBelow, FirstBits}
 
 -- a binary digit is 0 or 1
 digit-ind : (P : ℕ → Type 0) → P 0 → P 1 → (d : ℕ) → d < 2 → P d
@@ -237,3 +237,9 @@ bit-ones n j =
 
 pub first-bits : (n : ℕ) → n < 64 → FirstBits n (1 * 2 ^ n % 2 ^ 64 - 1)
 first-bits n h = record { bits = λ i l. ap (λ x. bit (x - 1) i) (shifted n h) ∙ bit-ones n i }
+
+pub below-first : {x n y : ℕ} → FirstBits n y → BitsBelow x n (bitAnd x y)
+below-first {x} {n} {y} f = record { bits = λ i l. bit-and x y i ∙ ap (λ b. bit x i && b) (f .bits i l) }
+
+pub below-all : {x n : ℕ} → 64 ≤ n → BitsBelow x n x
+below-all {x} {n} h = record { bits = λ i l. sym (and-true (bit x i)) ∙ ap (λ b. bit x i && b) (sym (lt-ltb i n (omega arith))) }

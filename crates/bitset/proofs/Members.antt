@@ -155,6 +155,31 @@ module _ {t : List ℕ} {w into from : ℕ} where
       long = v .long;
     }
 
+-- two words at once
+pub joined-two : {t : List ℕ} {into from : ℕ} → Row t 2 into
+    → Joined t 2 into from
+    (set (set t (into * 2) (bitOr (getD t (into * 2) 0) (getD t (from * 2) 0))) (into * 2 + 1) (bitOr (getD t (into * 2 + 1) 0) (getD t (from * 2 + 1) 0)))
+joined-two {t} {into} {from} f =
+    let low = bitOr (getD t (into * 2) 0) (getD t (from * 2) 0) in
+    let high = bitOr (getD t (into * 2 + 1) 0) (getD t (from * 2 + 1) 0) in
+    let half = set t (into * 2) low in
+    let long : length half ≡ length t = length-set t (into * 2) low in
+    joined-done {i = 2} (omega arith) (record {
+      most = omega arith;
+      done = λ k h.
+          ⊎-elim
+          (λ l. let e : k ≡ 0 = omega arith in
+          let p : into * 2 + 0 ≡ into * 2 = omega arith in
+          let q : from * 2 + 0 ≡ from * 2 = omega arith in
+          rw (e, p, q) (getD-set-other half (into * 2 + 1) (into * 2) high 0 (omega arith) ∙ getD-set-same t (into * 2) low 0 (omega (arith, f .fits))))
+          (λ l. let e : k ≡ 1 = omega arith in rw e (getD-set-same half (into * 2 + 1) high 0 (omega (arith, f .fits))))
+          (lt-cases k 1);
+      kept = λ p l.
+          let d : (p ≡ into * 2 + 1 → ⊥) × (p ≡ into * 2 → ⊥) = ⊎-elim (λ b. (λ e. omega arith, λ e. omega arith)) (λ b. (λ e. omega arith, λ e. omega arith)) l in
+          getD-set-other half (into * 2 + 1) p high 0 (d .0) ∙ getD-set-other t (into * 2) p low 0 (d .1);
+      long = length-set half (into * 2 + 1) high ∙ long;
+    })
+
 -- The first i of n words were set to those of g
 pub record FilledTo (g : ℕ → ℕ) (n i : ℕ) (t : List ℕ) : Type 0 where
   pub most : i ≤ n

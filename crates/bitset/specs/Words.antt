@@ -41,7 +41,11 @@ pub record Lowest (x j : ℕ) : Type 0 where
   pub below : j < 64
   pub there : bit x j ≡ true
 
--- the bits below n
+-- the bits of x below n
+pub record BitsBelow (x n y : ℕ) : Type 0 where
+  pub bits : (i : ℕ) → i < 64 → bit y i ≡ (bit x i && ltb i n)
+
+-- all bits below n
 pub record FirstBits (n x : ℕ) : Type 0 where
   pub bits : (i : ℕ) → i < 64 → bit x i ≡ ltb i n
 

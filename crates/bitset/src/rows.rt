@@ -29,8 +29,31 @@ pub fn insert(t: &mut [u64], w: usize, r: usize, b: usize)
     t[at] = word;
 }
 
-// Adds row `from` to row `into`.
+// Adds row `from` to row `into`. Rows of two words, the commonest, go without a loop.
 pub fn join(t: &mut [u64], w: usize, into: usize, from: usize)
+    requires { ⌜ Row (now t) w into ⌝ }
+    requires { ⌜ Row (now t) w from ⌝ }
+    ensures { λ _. ⌜ Joined (now (t .entry)) w into from (now (t .exit)) ⌝ }
+{
+    if w == 2 {
+        join_two(t, into, from);
+    } else {
+        join_words(t, w, into, from);
+    }
+}
+
+fn join_two(t: &mut [u64], into: usize, from: usize)
+    requires { ⌜ Row (now t) 2 into ⌝ }
+    requires { ⌜ Row (now t) 2 from ⌝ }
+    ensures { λ _. ⌜ Joined (now (t .entry)) 2 into from (now (t .exit)) ⌝ }
+{
+    let low = t[into * 2] | t[from * 2];
+    let high = t[into * 2 + 1] | t[from * 2 + 1];
+    t[into * 2] = low;
+    t[into * 2 + 1] = high;
+}
+
+fn join_words(t: &mut [u64], w: usize, into: usize, from: usize)
     requires { ⌜ Row (now t) w into ⌝ }
     requires { ⌜ Row (now t) w from ⌝ }
     ensures { λ _. ⌜ Joined (now (t .entry)) w into from (now (t .exit)) ⌝ }

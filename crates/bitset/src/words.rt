@@ -1,7 +1,7 @@
-// One word: its bits, a bit set or left out, the bits of one word outside another, the lowest bit and the first bits.
+// One word: its bits, a bit set or left out, the bits of one word outside another, the lowest bit, the first bits.
 ghost use mathlib.Core.Path.{_≡_};
 ghost use Prim.Native.Nat.{_<_};
-ghost use Rattle.bitset.specs.Words.{bit, WithBit, WithBitIf, Without, WithoutBit, Lowest, FirstBits};
+ghost use Rattle.bitset.specs.Words.{bit, WithBit, WithBitIf, Without, WithoutBit, Lowest, BitsBelow, FirstBits};
 
 pub fn has_bit(word: u64, j: usize) -> bool
     requires { ⌜ j < 64 ⌝ }
@@ -52,4 +52,11 @@ pub fn first_bits(n: usize) -> u64
     ensures { λ r. ⌜ FirstBits n r ⌝ }
 {
     (1u64 << n) - 1
+}
+
+// The bits of a word below n.
+pub fn bits_below(word: u64, n: usize) -> u64
+    ensures { λ r. ⌜ BitsBelow word n r ⌝ }
+{
+    if n < 64 { word & first_bits(n) } else { word }
 }

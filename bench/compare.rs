@@ -1,0 +1,96 @@
+//! Times of read, rank, check and solve with two libraries in one run, by turns: the least of many calls with each, and the second's in parts of the first's.
+//! Prints a Markdown table. The libraries are shared ones, loaded side by side.
+
+#[allow(dead_code)]
+#[path = "../tests/differential/generator.rs"]
+mod generator;
+mod families;
+
+use families::*;
+use std::ffi::{c_char, c_int, c_void, CString};
+
+extern "C" {
+    fn dlopen(name: *const c_char, flags: c_int) -> *mut c_void;
+    fn dlsym(library: *mut c_void, name: *const c_char) -> *mut c_void;
+}
+
+#[repr(C)]
+struct Answer<const N: usize>([usize; N]);
+
+struct Library {
+    read: unsafe extern "C" fn(*const u8, usize) -> Answer<7>,
+    rank: unsafe extern "C" fn(*const u8, usize, *mut u8, usize) -> Answer<3>,
+    check: unsafe extern "C" fn(*const u8, usize, *const u8, usize, *const u8, usize) -> Answer<4>,
+    solve: unsafe extern "C" fn(*const u8, usize, *mut u8, usize, *mut u8, usize, *mut u8, usize) -> Answer<8>,
+}
+
+impl Library {
+    fn load(path: &str) -> Library {
+        let library = unsafe { dlopen(CString::new(path).unwrap().as_ptr(), 2) };
+        assert!(!library.is_null(), "{path} is no shared library");
+        let find = |name: &str| {
+            let found = unsafe { dlsym(library, CString::new(name).unwrap().as_ptr()) };
+            assert!(!found.is_null(), "{path} has no {name}");
+            found
+        };
+        unsafe {
+            Library {
+                read: std::mem::transmute(find("judge_read")),
+                rank: std::mem::transmute(find("judge_rank")),
+                check: std::mem::transmute(find("judge_check")),
+                solve: std::mem::transmute(find("judge_solve")),
+            }
+        }
+    }
+}
+
+struct Tables {
+    values: [u8; 4096],
+    levels: [u8; 8192],
+    verdicts: [u8; 256],
+    strata: [u8; 32],
+}
+
+/// One call on the case: 0 read, 1 rank, 2 check (of what the last solve wrote), 3 solve.
+fn call(library: &Library, which: usize, case: &[u8], t: &mut Tables) -> usize {
+    let (c, n) = (case.as_ptr(), case.len());
+    unsafe {
+        match which {
+            0 => (library.read)(c, n).0[0],
+            1 => (library.rank)(c, n, t.strata.as_mut_ptr(), 32).0[2],
+            2 => (library.check)(c, n, t.values.as_ptr(), 4096, t.levels.as_ptr(), 8192).0[0],
+            _ => (library.solve)(c, n, t.values.as_mut_ptr(), 4096, t.levels.as_mut_ptr(), 8192, t.verdicts.as_mut_ptr(), 256).0[2],
+        }
+    }
+}
+
+fn main() {
+    let words: Vec<String> = std::env::args().skip(1).collect();
+    let word = |name: &str| words.iter().position(|w| w == name).and_then(|i| words.get(i + 1));
+    let turns: usize = word("--turns").map_or(5, |w| w.parse().expect("--turns N"));
+    let sizes: Vec<usize> = word("--nodes").map_or(vec![16, 32, 64, 128], |w| w.split(',').map(|n| n.parse().expect("--nodes 16,32")).collect());
+    let libraries = [Library::load(&words[0]), Library::load(&words[1])];
+    println!("| case | nodes | read | rank | check | solve | read, ratio | rank, ratio | check, ratio | solve, ratio |");
+    println!("|---|---|---|---|---|---|---|---|---|---|");
+    for name in FAMILIES {
+        for &n in &sizes {
+            for seed in 1..=seeds(name) {
+                let case = family(name, n, seed);
+                let mut t = Tables { values: [0; 4096], levels: [0; 8192], verdicts: [0; 256], strata: [0; 32] };
+                let mut least = [[f64::MAX; 4]; 2];
+                let answers: Vec<usize> = libraries.iter().map(|library| call(library, 3, &case, &mut t)).collect();
+                assert_eq!(answers[0], answers[1], "rounds of {name}");
+                for _ in 0..turns {
+                    for (library, least) in libraries.iter().zip(&mut least) {
+                        for which in 0..4 {
+                            least[which] = least[which].min(times(|| { call(library, which, &case, &mut t); })[0]);
+                        }
+                    }
+                }
+                let after: Vec<String> = least[1].iter().map(|s| time(*s)).collect();
+                let ratios: Vec<String> = (0..4).map(|i| format!("{:.2}", least[1][i] / least[0][i])).collect();
+                println!("| {name} | {n} | {} | {} |", after.join(" | "), ratios.join(" | "));
+            }
+        }
+    }
+}
