@@ -21,9 +21,9 @@
  *   4       a limit is exceeded                                          the command's offset
  *   5       a node operand is not below the node count                   the command's offset
  *   6       a path operand is not an earlier path                        the command's offset
- *   7       a least number is 0                                          the command's offset
+ *   7       a least number is 0, or 255 in an at most                    the command's offset
  *   8       bytes after the end command                                  the first of them
- *   9       a shape operand is not in the case                           the first such command's offset
+ *   9       a shape operand names no written shape                       the first such command's offset
  *   10      the value table is shorter than the pair count               the length needed
  *   11      the level table is shorter than twice the pair count         the length needed
  *   12      the verdict table is shorter than the number of targets      the length needed
@@ -32,6 +32,11 @@
  *   15      a value 1 or 2 is not justified by its level                 the pair
  *   16      the strata table is shorter than the number of shapes        the length needed
  *   17      a shape depends on its own denial                            the lowest such shape
+ *   18      a part of a command 28 is more than 8 deep                   the offset of the 28
+ *   19      more than 32 shapes, written and fresh                       the command's offset
+ *
+ * Reading's refusals are 1 to 9, 18 and 19. Command 28 holds a whole rule; what it writes inside itself become fresh shapes, numbered
+ * after all written ones. Pairs, tables and the count of shapes are those of all shapes, fresh ones too.
  */
 #ifndef JUDGE_H
 #define JUDGE_H
@@ -87,22 +92,23 @@ struct judge_ranked {
     size_t strata;
 };
 
-/* Reads a case. Refusals 1 to 9. */
+/* Reads a case. Reading's refusals. */
 struct judge_reading judge_read(const uint8_t *case_bytes, size_t case_length);
 
-/* Solves a case. Refusals 1 to 12. Writes a value for each pair, two level bytes for each pair, and a verdict for each target: 2 sure,
+/* Solves a case. Reading's refusals, 10, 11, 12. Writes a value for each pair, two level bytes for each pair, and a verdict for each target: 2 sure,
  * 1 open, 0 impossible. A target is sure (impossible) exactly when every stable assignment of the case has it valid (violated). */
 struct judge_solution judge_solve(const uint8_t *case_bytes, size_t case_length,
                                   uint8_t *values, size_t values_length,
                                   uint8_t *levels, size_t levels_length,
                                   uint8_t *verdicts, size_t verdicts_length);
 
-/* Checks a proposal: a value and a level for each pair. Refusals 1 to 11, 13, 14, 15. Writes nothing. Bytes past the pairs are not read. */
+/* Checks a proposal: a value and a level for each pair. Reading's refusals, 10, 11, 13, 14, 15. Writes nothing. Bytes past the pairs are
+ * not read. */
 struct judge_checked judge_check(const uint8_t *case_bytes, size_t case_length,
                                  const uint8_t *values, size_t values_length,
                                  const uint8_t *levels, size_t levels_length);
 
-/* Ranks the shapes: writes a byte for each, the most nots on a walk of references from it. Refusals 1 to 9, 16, 17. */
+/* Ranks the shapes: writes a byte for each, the most nots on a walk of references from it. Reading's refusals, 16, 17. */
 struct judge_ranked judge_rank(const uint8_t *case_bytes, size_t case_length,
                                uint8_t *strata, size_t strata_length);
 

@@ -6,7 +6,7 @@
 
 #include "judge.h"
 
-#define MOST_CASES 40
+#define MOST_CASES 80
 #define MOST_BYTES 8192
 
 static struct { const char *name; uint8_t *bytes; size_t length; } cases[MOST_CASES];
@@ -44,6 +44,9 @@ static unsigned below(unsigned n) {
 static uint8_t full[MOST_BYTES];
 static size_t full_length;
 
+/* how many shapes are written; operands and targets name these */
+static unsigned written;
+
 static void put(unsigned byte) { full[full_length++] = (uint8_t)byte; }
 
 static void put_node(unsigned node) { put(node), put(0); }
@@ -60,22 +63,52 @@ static void put_shape(unsigned kind) {
   switch (kind) {
     case 0x20: break;
     case 0x21: put_node(below(128)); break;
-    case 0x24: put(below(32)); break;
+    case 0x24: put(below(written)); break;
     case 0x25: put(below(16)), put(below(16)); break;
-    case 0x26: put(below(16)), put(below(32)); break;
-    case 0x27: put(1 + below(255) % (1 + below(30))), put(below(16)), put(below(32)); break;
-    default: put(below(32)), put(below(32));
+    case 0x26: put(below(16)), put(below(written)); break;
+    case 0x27: put(1 + below(255) % (1 + below(30))), put(below(16)), put(below(written)); break;
+    default: put(below(written)), put(below(written));
   }
 }
 
-/* of eight shapes so many are nots, and some of the others */
-static void make_full(unsigned nots) {
+/* a part that makes so many shapes with all that is inside it, a 29 none; 32 are 6 deep */
+static void put_part(unsigned makes) {
+  unsigned half = (makes - 1) / 2;
+  if (makes == 0) put(0x29), put(below(written));
+  else if (makes == 1) put(0x21), put_node(below(128));
+  else if (makes == 2) put(0x24), put_part(1);
+  else if (makes == 3) put(0x2A), put(below(255)), put(below(16)), put_part(1);
+  else put(0x22 + below(2)), put_part(half), put_part(makes - 1 - half);
+}
+
+/* ands of ands, so many levels of parts, over tops or named shapes */
+static void put_ands(unsigned levels, int named) {
+  if (levels > 1) put(0x22), put_ands(levels - 1, named), put_ands(levels - 1, named);
+  else if (named) put(0x29), put(below(written));
+  else put(0x20);
+}
+
+/* so many shapes are written; where they are less than 32, the last is a 28 that makes up for them. Of eight others so many are nots, and some more */
+static void make_full(unsigned nots, unsigned count) {
   full_length = 0;
+  written = count;
   put(0x01), put_node(128);
   for (int i = 0; i < 1024; i++) put(0x02), put(below(4)), put_node(below(128)), put_node(below(128));
   for (unsigned i = 0; i < 16; i++) put_path(i < 2 ? 0x10 + i : 0x10 + below(5), i);
-  for (int i = 0; i < 32; i++) put_shape(below(8) < nots ? 0x24 : 0x20 + below(8));
-  for (int i = 0; i < 256; i++) put(0x30), put(below(32)), put_node(below(128));
+  for (unsigned i = count < 32; i < count; i++) put_shape(below(8) < nots ? 0x24 : 0x20 + below(8));
+  if (count < 32) put(0x28), put_part(32 - count + 1);
+  for (int i = 0; i < 256; i++) put(0x30), put(below(written)), put_node(below(128));
+  put(0xFF);
+}
+
+/* as many fresh shapes, or named ones, as reading can come to see: 32 or 31 shapes, then a 28 with 255 parts */
+static void make_most_parts(int named) {
+  full_length = 0;
+  written = named ? 32 : 2;
+  put(0x01), put_node(128);
+  if (named) for (unsigned i = 0; i < 31; i++) put(0x22), put(i), put(i + 1);
+  else put(0x28), put(0x24), put_ands(5, 0);
+  put(0x28), put_ands(8, named);
   put(0xFF);
 }
 
@@ -93,10 +126,19 @@ static void make_cases(void) {
   add_hex("no shapes", "01 80 00, 02 00 7F 00 00 00, FF");
   add_hex("strata", "01 02 00, 02 00 00 00 01 00, 10 00, 20, 24 00, 26 00 01, 24 02, 22 03 01, 30 04 00 00, FF");
   for (unsigned nots = 0; nots < 4; nots++) {
-    make_full(nots);
+    make_full(nots, 32);
     add("full limits", full, full_length);
   }
-  make_full(1);
+  make_full(1, 16);
+  add("full limits, 16 shapes fresh", full, full_length);
+  make_full(1, 1);
+  add("full limits, 31 shapes fresh", full, full_length);
+  make_most_parts(0);
+  add("most fresh shapes", full, full_length);
+  make_most_parts(1);
+  add("most named shapes", full, full_length);
+  add("most named shapes, the last cut", full, full_length - 2);
+  make_full(1, 32);
   add("full, end missing", full, full_length - 1);
   add("full, cut in an edge", full, 4000);
   add("full, a target cut", full, full_length - 2);
@@ -108,7 +150,7 @@ static void make_cases(void) {
   add("full, node not there", full, full_length);
   add_hex("empty", "");
   add_hex("1", "00");
-  add_hex("1 later", "01 00 00 28");
+  add_hex("1 later", "01 00 00 29 00");
   add_hex("2", "FF");
   add_hex("2 later", "01 00 00 20 10 00 FF");
   add_hex("3", "01 04");
@@ -118,6 +160,27 @@ static void make_cases(void) {
   add_hex("7", "01 01 00 10 00 27 00 00 00");
   add_hex("8", "01 00 00 FF FF");
   add_hex("9", "01 00 00 24 01 FF");
+  add_hex("nested ring", "01 04 00, 02 00 01 00 00 00, 02 00 02 00 03 00, 02 00 03 00 02 00, 02 01 00 00 00 00, 10 00, 10 01, 28 23 27 01 01 20 27 01 00 29 00, 28 24 29 00, 30 00 01 00, 30 00 02 00, FF");
+  add_hex("at most", "01 03 00, 02 00 00 00 01 00, 02 00 00 00 02 00, 10 00, 28 2A 01 00 20, 28 2A 02 00 20, 28 2A FE 00 20, FF");
+  add_hex("double not", "01 01 00, 28 24 24 29 00, 30 00 00 00, FF");
+  add_hex("29 of itself", "01 01 00, 28 29 00, FF");
+  add_hex("8 deep", "01 01 00, 10 00, 28 24 2A 00 00 26 00 27 01 00 22 20 23 29 00 24 25 00 00, FF");
+  add_hex("28 alone", "01 01 00, 28");
+  add_hex("a part's node cut", "01 01 00, 28 24 21 00");
+  add_hex("a part's paths cut", "01 01 00, 10 00, 28 24 25 00");
+  add_hex("a part's path cut", "01 01 00, 10 00, 28 24 26");
+  add_hex("an inner part cut", "01 01 00, 10 00, 28 22 20");
+  add_hex("a part's number cut", "01 01 00, 10 00, 28 27");
+  add_hex("a 2A cut", "01 01 00, 10 00, 28 24 2A 00");
+  add_hex("a 29 cut", "01 01 00, 28 24 29");
+  add_hex("1 in a part", "01 01 00, 28 24 28");
+  add_hex("5 in a part", "01 01 00, 28 24 21 01 00");
+  add_hex("6 in a part", "01 01 00, 28 24 26 00");
+  add_hex("7 in a part", "01 01 00, 10 00, 28 2A FF 00");
+  add_hex("9 in a part", "01 01 00, 28 24 29 01, FF");
+  add_hex("18", "01 01 00, 28 24 24 24 24 24 24 24 24 20, FF");
+  add_hex("18, nothing there", "01 01 00, 28 24 24 24 24 24 24 24 24");
+  add_hex("19", "01 01 00, 28 24 24 22 22 22 22 20 20 22 20 20 22 22 20 20 22 20 20 22 22 22 20 20 22 20 20 22 22 20 20 22 20 20, FF");
 }
 
 /* ---- What is run, and what went wrong */

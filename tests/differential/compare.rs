@@ -1,7 +1,8 @@
 //! Calls of the library, each compared with the reference in full: number, place, counts, and every byte of every table and beside it.
 
 use crate::plan::{Group, Work};
-use crate::reference::Judge;
+use crate::reference::parts::Part;
+use crate::reference::{Case, Judge};
 use crate::{calls, proposals, watch};
 use std::collections::BTreeMap;
 
@@ -48,11 +49,30 @@ impl Table {
 
 /// The numbers that each operation can answer.
 const OPERATIONS: [(&str, &[usize]); 4] = [
-    ("read", &[0, 1, 2, 3, 4, 5, 6, 7, 8, 9]),
-    ("solve", &[0, 1, 2, 3, 4, 5, 6, 7, 8, 9, 10, 11, 12]),
-    ("check", &[0, 1, 2, 3, 4, 5, 6, 7, 8, 9, 10, 11, 13, 14, 15]),
-    ("rank", &[0, 1, 2, 3, 4, 5, 6, 7, 8, 9, 16, 17]),
+    ("read", &[0, 1, 2, 3, 4, 5, 6, 7, 8, 9, 18, 19]),
+    ("solve", &[0, 1, 2, 3, 4, 5, 6, 7, 8, 9, 18, 19, 10, 11, 12]),
+    ("check", &[0, 1, 2, 3, 4, 5, 6, 7, 8, 9, 18, 19, 10, 11, 13, 14, 15]),
+    ("rank", &[0, 1, 2, 3, 4, 5, 6, 7, 8, 9, 18, 19, 16, 17]),
 ];
+
+/// What a fresh shape's part can be.
+const FRESH: [&str; 10] = ["top", "node", "and", "or", "not", "not of a not", "same", "all", "at least", "at most"];
+
+fn fresh_kind(part: &Part) -> &'static str {
+    match part {
+        Part::Top => "top",
+        Part::Node(_) => "node",
+        Part::And(..) => "and",
+        Part::Or(..) => "or",
+        Part::Not(inner) if matches!(**inner, Part::Not(_)) => "not of a not",
+        Part::Not(_) => "not",
+        Part::Same(..) => "same",
+        Part::All(..) => "all",
+        Part::AtLeast(..) => "at least",
+        Part::AtMost(..) => "at most",
+        Part::Named(_) => unreachable!("a named shape is none"),
+    }
+}
 
 #[derive(Default)]
 pub struct Tally {
@@ -60,6 +80,9 @@ pub struct Tally {
     pub calls: usize,
     numbers: BTreeMap<(&'static str, usize), usize>,
     pub proposals: BTreeMap<&'static str, usize>,
+    /// of cases that read: fresh shapes by their part, written ones by the depth of theirs
+    fresh: BTreeMap<&'static str, usize>,
+    depths: BTreeMap<usize, usize>,
 }
 
 impl Work for Tally {
@@ -74,13 +97,24 @@ impl Tally {
         *self.numbers.entry((operation, number)).or_insert(0) += 1;
     }
 
-    /// How often each number came that an operation can answer, and each kind of proposal.
+    pub fn note_parts(&mut self, case: &Case) {
+        for part in &case.written {
+            *self.depths.entry(part.depth()).or_insert(0) += 1;
+        }
+        for part in &case.parts()[case.written.len()..] {
+            *self.fresh.entry(fresh_kind(part)).or_insert(0) += 1;
+        }
+    }
+
+    /// How often each number came that an operation can answer, each kind of proposal, and each kind and depth of part.
     pub fn groups(&self) -> Vec<Group> {
         let came = |operation, number: usize| (number.to_string(), self.numbers.get(&(operation, number)).copied().unwrap_or(0));
         let proposed = |kind: &str| (kind.to_string(), self.proposals.get(kind).copied().unwrap_or(0));
         let answers = |(operation, numbers): (&'static str, &[usize])| (operation, numbers.iter().map(|number| came(operation, *number)).collect());
         let mut groups: Vec<Group> = OPERATIONS.into_iter().map(answers).collect();
         groups.push(("proposals", proposals::names().into_iter().map(proposed).collect()));
+        groups.push(("fresh shapes", FRESH.map(|kind| (kind.to_string(), self.fresh.get(kind).copied().unwrap_or(0))).to_vec()));
+        groups.push(("depths", (1..=8).map(|depth| (depth.to_string(), self.depths.get(&depth).copied().unwrap_or(0))).collect()));
         groups
     }
 }

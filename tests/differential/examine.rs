@@ -3,7 +3,7 @@
 use crate::compare::*;
 use crate::generator::Random;
 use crate::proposals::*;
-use crate::reference::Judge;
+use crate::reference::{Case, Judge};
 
 fn filler(r: &mut Random, length: usize) -> Vec<u8> {
     let (start, step) = (r.byte(), r.byte());
@@ -62,6 +62,8 @@ fn examine_tables(tally: &mut Tally, r: &mut Random, judge: &mut Judge, case: &[
 fn examine_proposals(tally: &mut Tally, r: &mut Random, judge: &mut Judge, case: &[u8], count: usize) {
     let solved = judge.solved().clone();
     let read = judge.read.clone().unwrap();
+    tally.note_parts(&read);
+    hold_to_parts(&read, &solved.values);
     compare_check(tally, judge, case, &solved.values, &level_bytes(&solved.levels));
     for _ in 0..count {
         let proposal = proposal(r, &read, &solved);
@@ -81,6 +83,11 @@ fn examine_proposals(tally: &mut Tally, r: &mut Random, judge: &mut Judge, case:
     }
 }
 
+/// The reference held to itself: in a stable assignment each shape has the value that recursion on its part gives, without the expansion.
+fn hold_to_parts(case: &Case, stable: &[u8]) {
+    assert_eq!(case.values_by_parts(stable), stable, "reference: parts and their expansion disagree on {case:?}");
+}
+
 /// Every assignment of a case of few pairs that is supported or stable, and every 16th other.
 pub fn examine_all_assignments(tally: &mut Tally, r: &mut Random, case: &[u8]) {
     let judge = Judge::new(case);
@@ -89,6 +96,9 @@ pub fn examine_all_assignments(tally: &mut Tally, r: &mut Random, case: &[u8]) {
     for values in assignments(read.pairs()) {
         let stable = read.stable(&values);
         let supported = supported(&read, &values);
+        if stable {
+            hold_to_parts(&read, &values);
+        }
         if !stable && !supported && !r.one_in(16) {
             continue;
         }

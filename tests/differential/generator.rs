@@ -1,4 +1,8 @@
-//! Random and built cases, whole and damaged. A case is kept as a list of commands until its bytes are wanted, so that damage can be done to commands as well as to bytes.
+//! Random and built cases, whole and damaged. A case is kept as a list of commands until its bytes are wanted, so that damage can be done to commands as well as to bytes. Those with parts have a file of their own.
+
+#[path = "nested.rs"]
+mod nested;
+pub use nested::*;
 
 /// SplitMix64: the same numbers from the same seed on every machine.
 pub struct Random(pub u64);
@@ -103,6 +107,10 @@ pub struct Size {
     pub nots: usize,
     /// of 16 others, about how many are top, node or same
     pub grounds: usize,
+    /// of 16 written shapes, about how many are 28s; at least one, if this isn't 0
+    pub nested: usize,
+    /// how many fresh shapes their parts make, all together
+    pub fresh: usize,
 }
 
 fn random_order(r: &mut Random) -> Order {
@@ -125,6 +133,8 @@ pub fn small(r: &mut Random) -> Size {
         layout: random_layout(r),
         nots: r.range(0, 8),
         grounds: r.range(1, 5),
+        nested: 0,
+        fresh: 0,
     }
 }
 
@@ -146,6 +156,8 @@ pub fn medium(r: &mut Random) -> Size {
         layout: random_layout(r),
         nots: r.range(0, 8),
         grounds: r.range(1, 5),
+        nested: 0,
+        fresh: 0,
     }
 }
 
@@ -162,6 +174,8 @@ pub fn large(r: &mut Random) -> Size {
         layout: random_layout(r),
         nots: r.range(0, 8),
         grounds: r.range(1, 5),
+        nested: 0,
+        fresh: 0,
     }
 }
 
@@ -206,8 +220,12 @@ pub fn random_case(r: &mut Random, size: &Size) -> Commands {
         });
     }
     let stratum: Vec<usize> = (0..size.shapes).map(|_| r.below(5)).collect();
+    let fresh = fresh_of_each(r, size);
     for s in 0..size.shapes {
-        commands.push(random_shape(r, size, s, &stratum));
+        commands.push(match fresh[s] {
+            Some(fresh) => random_nested(r, size, s, &stratum, fresh),
+            None => random_shape(r, size, s, &stratum),
+        });
     }
     if size.shapes > 0 && n > 0 {
         for _ in 0..size.targets {
@@ -218,18 +236,31 @@ pub fn random_case(r: &mut Random, size: &Size) -> Commands {
     commands
 }
 
+/// A shape for an operand of shape s that so many nots stand before; in strata there may be none.
+fn operand(r: &mut Random, size: &Size, s: usize, stratum: &[usize], nots: usize) -> Option<u8> {
+    match size.order {
+        Order::Any => Some(r.below(size.shapes) as u8),
+        Order::Next => Some(if r.one_in(5) { r.below(size.shapes) } else { (s + 1) % size.shapes } as u8),
+        Order::Strata => {
+            let fit: Vec<usize> = (0..size.shapes).filter(|t| stratum[*t] + nots <= stratum[s]).collect();
+            (!fit.is_empty()).then(|| r.pick(&fit) as u8)
+        }
+    }
+}
+
+fn random_least(r: &mut Random, n: usize) -> u8 {
+    (match r.below(10) {
+        0 => r.range(1, 255),
+        1 => r.range(1, n.max(1)),
+        2 | 3 => r.range(2, 4),
+        4 => 2,
+        _ => 1,
+    }) as u8
+}
+
 fn random_shape(r: &mut Random, size: &Size, s: usize, stratum: &[usize]) -> Vec<u8> {
     let n = size.nodes;
-    let operand = |r: &mut Random, fall: usize| -> Option<u8> {
-        match size.order {
-            Order::Any => Some(r.below(size.shapes) as u8),
-            Order::Next => Some(if r.one_in(5) { r.below(size.shapes) } else { (s + 1) % size.shapes } as u8),
-            Order::Strata => {
-                let fit: Vec<usize> = (0..size.shapes).filter(|t| stratum[*t] + fall <= stratum[s]).collect();
-                (!fit.is_empty()).then(|| r.pick(&fit) as u8)
-            }
-        }
-    };
+    let operand = |r: &mut Random, nots: usize| operand(r, size, s, stratum, nots);
     loop {
         let kind = if r.below(16) < size.nots {
             0x24
@@ -252,16 +283,7 @@ fn random_shape(r: &mut Random, size: &Size, s: usize, stratum: &[usize]) -> Vec
             },
             0x25 => vec![0x25, path, r.below(size.paths) as u8],
             0x26 => vec![0x26, path, operand(r, 0).unwrap()],
-            _ => {
-                let least = match r.below(10) {
-                    0 => r.range(1, 255),
-                    1 => r.range(1, n.max(1)),
-                    2 | 3 => r.range(2, 4),
-                    4 => 2,
-                    _ => 1,
-                };
-                vec![0x27, least as u8, path, operand(r, 0).unwrap()]
-            }
+            _ => { let least = random_least(r, n); vec![0x27, least, path, operand(r, 0).unwrap()] }
         };
     }
 }
@@ -436,7 +458,7 @@ pub fn clashes(r: &mut Random, n: usize, pairs: usize) -> Commands {
 
 // ---- Damage
 
-const KNOWN: [u8; 17] = [0x01, 0x02, 0x10, 0x11, 0x12, 0x13, 0x14, 0x20, 0x21, 0x22, 0x23, 0x24, 0x25, 0x26, 0x27, 0x30, 0xFF];
+const KNOWN: [u8; 18] = [0x01, 0x02, 0x10, 0x11, 0x12, 0x13, 0x14, 0x20, 0x21, 0x22, 0x23, 0x24, 0x25, 0x26, 0x27, 0x28, 0x30, 0xFF];
 
 fn count(commands: &Commands, from: u8, to: u8) -> usize {
     commands.iter().filter(|c| (from..=to).contains(&c[0])).count()
@@ -466,7 +488,7 @@ fn damage_one(r: &mut Random, commands: &mut Commands, refusal: usize) {
     match refusal {
         1 => {
             let byte = loop {
-                let byte = if r.one_in(2) { r.pick(&[0x00, 0x03, 0x0F, 0x15, 0x1F, 0x28, 0x29, 0x2A, 0x2F, 0x31, 0xFE]) } else { r.byte() };
+                let byte = if r.one_in(2) { r.pick(&[0x00, 0x03, 0x0F, 0x15, 0x1F, 0x29, 0x2A, 0x2B, 0x2F, 0x31, 0xFE]) } else { r.byte() };
                 if !KNOWN.contains(&byte) {
                     break byte;
                 }
@@ -497,7 +519,7 @@ fn damage_one(r: &mut Random, commands: &mut Commands, refusal: usize) {
                 0 => { let n = r.pick(&[129, 130, 255, 256, 257, 384, 0x8000, 0xFFFF]); commands[0] = nodes(n); return; }
                 1 => (0x02, 1024, edge(0, 0, 0)),
                 2 => (0x14, 16, vec![0x10, 0]),
-                3 => (0x27, 32, vec![0x20]),
+                3 => (0x28, 32, vec![0x20]),
                 _ => (0x30, 256, target(0, 0)),
             };
             if n == 0 && matches!(byte, 0x02 | 0x30) {
@@ -506,7 +528,7 @@ fn damage_one(r: &mut Random, commands: &mut Commands, refusal: usize) {
             let there = match byte {
                 0x02 => count(commands, 2, 2),
                 0x14 => count(commands, 0x10, 0x14),
-                0x27 => count(commands, 0x20, 0x27),
+                0x28 => count(commands, 0x20, 0x28),
                 _ => count(commands, 0x30, 0x30),
             };
             let at = end_of(commands, byte);
@@ -516,7 +538,7 @@ fn damage_one(r: &mut Random, commands: &mut Commands, refusal: usize) {
                 0 => { fill.last_mut().unwrap().pop(); }
                 1 if byte == 0x02 => { *fill.last_mut().unwrap() = edge(0, n, 0); }
                 2 if byte == 0x14 => { *fill.last_mut().unwrap() = vec![0x14, 99]; }
-                3 if byte == 0x27 => { *fill.last_mut().unwrap() = vec![0x27, 0, 99, 99]; }
+                3 if byte == 0x28 => { *fill.last_mut().unwrap() = vec![0x27, 0, 99, 99]; }
                 4 if byte == 0x30 => { *fill.last_mut().unwrap() = target(99, n); }
                 _ => {}
             }
@@ -550,7 +572,7 @@ fn damage_one(r: &mut Random, commands: &mut Commands, refusal: usize) {
             commands.push(tail);
         }
         _ => if let Some(i) = some(r, positions(commands, &[0x22, 0x23, 0x24, 0x26, 0x27, 0x30])) {
-            let shapes = count(commands, 0x20, 0x27);
+            let shapes = count(commands, 0x20, 0x28);
             let c = &mut commands[i];
             let at = match c[0] { 0x22 | 0x23 => r.pick(&[1, 2]), 0x26 => 2, 0x27 => 3, _ => 1 };
             c[at] = r.pick(&[shapes, shapes + 1, 31, 32, 255]).max(shapes) as u8;

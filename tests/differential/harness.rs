@@ -1,4 +1,4 @@
-//! The library against the reference: number, place, counts and every byte of every table, on the samples of document 01, on built and damaged cases, and on random ones.
+//! The library against the reference: number, place, counts and every byte of every table, on the samples of the documents, on built and damaged cases, and on random ones.
 
 mod calls;
 mod compare;
@@ -6,6 +6,7 @@ mod examine;
 mod generator;
 mod interface;
 mod kinds;
+mod part_kinds;
 mod plan;
 mod proposals;
 #[allow(dead_code)]

@@ -3,20 +3,21 @@
 use crate::compare::*;
 use crate::examine::*;
 use crate::generator::*;
+use crate::part_kinds;
 use crate::plan::{Kind, Plan};
 use crate::reference::Judge;
 use crate::samples;
 
-type Cases = Vec<Vec<u8>>;
+pub type Cases = Vec<Vec<u8>>;
 
 /// A turn for each case of a list, with so many proposals.
-fn list(plan: &Plan, name: &str, proposals: usize, cases: fn(&mut Random) -> Cases) -> Kind<Tally> {
+pub fn list(plan: &Plan, name: &str, proposals: usize, cases: fn(&mut Random) -> Cases) -> Kind<Tally> {
     let cases = cases(&mut plan.random(name, 0));
     Kind::listed(name, cases.len(), move |tally, r, number| examine(tally, r, &cases[number], proposals))
 }
 
 /// So many turns, each on a case drawn for it, with so many proposals.
-fn draw(name: &str, turns: usize, proposals: usize, case: impl Fn(&mut Random) -> Vec<u8> + 'static) -> Kind<Tally> {
+pub fn draw(name: &str, turns: usize, proposals: usize, case: impl Fn(&mut Random) -> Vec<u8> + 'static) -> Kind<Tally> {
     Kind::drawn(name, turns, move |tally, r, _| {
         let case = case(r);
         examine(tally, r, &case, proposals);
@@ -67,6 +68,7 @@ pub fn kinds(plan: &Plan) -> Vec<Kind<Tally>> {
             examine_all_assignments(tally, r, &case);
         }),
     ]);
+    kinds.extend(part_kinds::kinds(plan));
     kinds
 }
 
@@ -84,7 +86,7 @@ fn ring_less() -> Cases {
 fn ring_more() -> Cases {
     let mut cases = Vec::new();
     for n in 0..=ring().len() {
-        for byte in [0x00, 0x01, 0x02, 0x03, 0x10, 0x14, 0x20, 0x24, 0x27, 0x30, 0x31, 0xFE, 0xFF] {
+        for byte in [0x00, 0x01, 0x02, 0x03, 0x10, 0x14, 0x20, 0x24, 0x27, 0x28, 0x29, 0x2A, 0x30, 0x31, 0xFE, 0xFF] {
             let mut case = ring();
             case.insert(n, byte);
             cases.push(case);
@@ -203,7 +205,7 @@ fn paths_of_paths(r: &mut Random) -> Cases {
 
 // ---- Cases drawn at random
 
-fn drawn(r: &mut Random, size: fn(&mut Random) -> Size) -> Vec<u8> {
+pub fn drawn(r: &mut Random, size: fn(&mut Random) -> Size) -> Vec<u8> {
     let size = size(r);
     bytes(&random_case(r, &size))
 }

@@ -1,10 +1,19 @@
-//! The samples of document 01, as document 02 has changed them, held to the library alone; every expected number is the documents'.
+//! Samples held to the library alone: those of document 01, as document 02 has changed them, and some of rules inside rules, worked out by hand; every expected number is the documents'.
 
 use crate::calls::*;
 use crate::proposals::level_bytes;
 use std::fmt::Debug;
 
 pub const RING: &str = "01 04 00, 02 00 01 00 00 00, 02 00 02 00 03 00, 02 00 03 00 02 00, 02 01 00 00 00 00, 10 00, 10 01, 20, 27 01 01 00, 27 01 00 03, 23 01 02, 24 03, 30 03 01 00, 30 03 02 00, FF";
+
+/// The ring case in two rules: 0, linked, is or of at least 1 at the gateway (2) of a top (3), and at least 1 relay (4) of 0; 1 is its not.
+pub const NESTED_RING: &str = "01 04 00, 02 00 01 00 00 00, 02 00 02 00 03 00, 02 00 03 00 02 00, 02 01 00 00 00 00, 10 00, 10 01, 28 23 27 01 01 20 27 01 00 29 00, 28 24 29 00, 30 00 01 00, 30 00 02 00, FF";
+
+/// At most 1, 2, 0 and 254 at a node with two fillers and at two without. Fresh: at least 2, 3, 1 and 255, each before its top.
+pub const AT_MOST: &str = "01 03 00, 02 00 00 00 01 00, 02 00 00 00 02 00, 10 00, 28 2A 01 00 20, 28 2A 02 00 20, 28 2A 00 00 20, 28 2A FE 00 20, FF";
+
+/// One node with an edge to itself. Written: 0 and 3 6, 1 node 0, 2 not 8. Fresh, as they open: 3 not 4, 4 at least 1 of 5, 5 not 1, 6 not 7, 7 top; of the second 28: 8 node 0.
+pub const FRESH: &str = "01 01 00, 02 00 00 00 00 00, 10 00, 28 22 2A 00 00 24 29 01 24 20, 21 00 00, 28 24 21 00 00, FF";
 
 pub fn hex(text: &str) -> Vec<u8> {
     let digits: Vec<u8> = text.chars().filter_map(|c| c.to_digit(16)).map(|d| d as u8).collect();
@@ -62,6 +71,13 @@ impl Held {
 /// Holds the library to every sample and answers how many there are.
 pub fn run() -> usize {
     let mut held = Held(0);
+    samples_of_01(&mut held);
+    solved_parts(&mut held);
+    refused_parts(&mut held);
+    held.0
+}
+
+fn samples_of_01(held: &mut Held) {
     let ring = hex(RING);
     held.same("ring, read", judge_read(&ring), [0, 0, 4, 4, 2, 5, 2]);
     held.same("ring, listing", listing(&ring), "rounds 2\n0 2222\n1 2000\n2 0200\n3 2200\n4 0022\ntargets 20\n");
@@ -127,5 +143,126 @@ pub fn run() -> usize {
     held.same("9, a shape first", judge_read(&hex("01 01 00, 20, 22 00 02, 30 02 00 00, FF")), refused(9, 4));
     held.same("a target's node, before 9", judge_read(&hex("01 01 00, 20, 22 00 02, 30 02 01 00, FF")), refused(5, 7));
     held.same("a node that only a 21 names", solved(&hex("01 02 00, 02 00 00 00 00 00, 21 01 00, FF")).1, vec![0, 2]);
-    held.0
+}
+
+// ---- Rules inside rules (document 02, point 2)
+
+fn solved_parts(held: &mut Held) {
+    let ring = hex(NESTED_RING);
+    held.same("nested ring, read", judge_read(&ring), [0, 0, 4, 4, 2, 5, 2]);
+    held.same("nested ring, listing", listing(&ring), "rounds 2\n0 2200\n1 0022\n2 2000\n3 2222\n4 0200\ntargets 20\n");
+    let (answer, v, l, d) = solved(&ring);
+    held.same("nested ring", answer, [0, 0, 2, 10, 0, 1, 0, 1]);
+    held.same("nested ring, levels", l.clone(), levels("3500 0011 2000 1111 0400"));
+    held.same("nested ring, verdicts", d, vec![2, 0]);
+    held.same("nested ring, solved proposal", judge_check(&ring, &v, &level_bytes(&l)), [0, 0, 0, 1]);
+    let proposed = (digits("2222 0000 2000 2222 0222"), level_bytes(&levels("3555 0000 2000 1111 0499")));
+    held.same("nested ring, proposal", judge_check(&ring, &proposed.0, &proposed.1), [15, 2, 0, 0]);
+    held.same("nested ring, values short", judge_solve(&ring, &mut [0; 19], &mut [0; 40], &mut [0; 2]), [10, 20, 0, 0, 0, 0, 0, 0]);
+    held.same("nested ring, levels short", judge_solve(&ring, &mut [0; 20], &mut [0; 39], &mut [0; 2]), [11, 40, 0, 0, 0, 0, 0, 0]);
+    held.same("nested ring, strata short", judge_rank(&ring, &mut [0; 4]), [16, 5, 0]);
+    let mut strata = [7; 6];
+    held.same("nested ring, ranking", judge_rank(&ring, &mut strata), [0, 0, 2]);
+    held.same("nested ring, strata", strata, [0, 1, 0, 0, 0, 7]);
+
+    let at_most = hex(AT_MOST);
+    held.same("at most, read", judge_read(&at_most), [0, 0, 3, 2, 1, 12, 0]);
+    held.same("at most", solved(&at_most).1, digits("022 222 022 222 200 222 000 222 200 222 000 222"));
+    let mut strata = [7; 12];
+    held.same("at most, ranking", judge_rank(&at_most, &mut strata), [0, 0, 2]);
+    held.same("at most, strata", strata, [1, 1, 1, 1, 0, 0, 0, 0, 0, 0, 0, 0]);
+
+    let fresh = hex(FRESH);
+    held.same("fresh, read", judge_read(&fresh), [0, 0, 1, 1, 1, 9, 0]);
+    held.same("fresh", solved(&fresh), ([0, 0, 3, 4, 0, 0, 0, 0], digits("020200022"), levels("010100011"), vec![]));
+    let mut strata = [7; 9];
+    held.same("fresh, ranking", judge_rank(&fresh, &mut strata), [0, 0, 3]);
+    held.same("fresh, strata", strata, [2, 0, 1, 2, 1, 1, 1, 0, 0]);
+
+    // a double not stays: two shapes that deny each other
+    let double_not = hex("01 01 00, 28 24 24 29 00, FF");
+    held.same("double not of itself", solved(&double_not), ([0, 0, 1, 0, 2, 0, 0, 0], vec![1, 1], vec![1, 1], vec![]));
+    held.same("double not, 2, 0", judge_check(&double_not, &[2, 0], &[1, 0, 0, 0]), [0, 0, 0, 0]);
+    held.same("double not, 0, 2", judge_check(&double_not, &[0, 2], &[0, 0, 1, 0]), [0, 0, 0, 0]);
+    held.same("double not, ranking", judge_rank(&double_not, &mut [7, 7]), [17, 0, 0]);
+    // a not of a fresh shape that comes back to itself: 17 is at the lowest on the walk
+    held.same("denial through a fresh shape", judge_rank(&hex("01 01 00, 20, 28 23 20 24 29 01, FF"), &mut [7; 4]), [17, 1, 0]);
+
+    // an outermost 29 is the or of that shape with itself
+    let or_itself = hex("01 01 00, 28 29 00, FF");
+    held.same("29 of itself", solved(&or_itself).1, vec![0]);
+    held.same("29 of itself, proposal", judge_check(&or_itself, &[2], &[255, 255]), [15, 0, 0, 0]);
+    let named = hex("01 01 00, 28 29 01, 28 29 02, 24 03, 21 00 00, FF");
+    held.same("29 of 29 of a not", solved(&named).1, digits("0002"));
+    let named = hex("01 01 00, 28 29 01, 28 29 02, 20, FF");
+    held.same("29 of 29 of a top, levels", solved(&named).2, levels("321"));
+}
+
+fn refused_parts(held: &mut Held) {
+    let mut read = |name: &str, text: &str, expected: [usize; 7]| held.same(name, judge_read(&hex(text)), expected);
+    let shapes = |shapes: usize| [0, 0, 1, 0, 0, shapes, 0];
+
+    read("28 alone", "01 01 00, 28", refused(3, 3));
+    read("an inner part that is not there", "01 01 00, 28 22 20", refused(3, 3));
+    read("a node operand cut", "01 01 00, 28 24 21 00", refused(3, 3));
+    read("a named shape cut", "01 01 00, 28 24 29", refused(3, 3));
+    read("the end in a part's place", "01 01 00, 28 24 FF", refused(1, 3));
+
+    read("8 deep", "01 01 00, 28 24 24 24 24 24 24 24 20, FF", shapes(8));
+    read("8 deep, a named shape", "01 01 00, 28 24 24 24 24 24 24 24 29 00, FF", shapes(7));
+    read("8 deep, 2A a level", "01 01 00, 10 00, 28 2A 00 00 2A 00 00 2A 00 00 2A 00 00 2A 00 00 2A 00 00 2A 00 00 20, FF", [0, 0, 1, 0, 1, 15, 0]);
+    read("8 deep, nothing there", "01 01 00, 28 24 24 24 24 24 24 24", refused(3, 3));
+    read("9 deep", "01 01 00, 28 24 24 24 24 24 24 24 24 20, FF", refused(18, 3));
+    read("9 deep, a named shape", "01 01 00, 28 24 24 24 24 24 24 24 24 29 00, FF", refused(18, 3));
+    read("9 deep, no part's byte", "01 01 00, 28 24 24 24 24 24 24 24 24 28, FF", refused(18, 3));
+    read("9 deep, nothing there", "01 01 00, 28 24 24 24 24 24 24 24 24", refused(18, 3));
+
+    for byte in ["1F", "28", "2B", "30", "FF"] {
+        read("no part's byte", &format!("01 01 00, 20, 28 {byte} 20, FF"), refused(1, 4));
+        read("no inner part's byte", &format!("01 01 00, 20, 28 22 20 {byte} 20, FF"), refused(1, 4));
+    }
+    read("29 at command level", "01 01 00, 20, 29 00, FF", refused(1, 4));
+    read("2A at command level", "01 01 00, 10 00, 20, 2A 00 00 20, FF", refused(1, 6));
+    read("28 first", "28 20", refused(2, 0));
+    read("28 after a target", "01 01 00, 20, 30 00 00 00, 28", refused(2, 8));
+    read("28 after the end", "01 01 00, 28 20, FF 28", refused(8, 6));
+
+    read("a part's node", "01 01 00, 28 24 21 01 00, FF", refused(5, 3));
+    read("a part's path, nothing behind", "01 01 00, 28 26 00", refused(6, 3));
+    read("a 27 with 0", "01 01 00, 10 00, 28 24 27 00 00 20, FF", refused(7, 5));
+    read("a 27 with 0 and a wrong path", "01 01 00, 10 00, 28 27 00 01 20, FF", refused(6, 5));
+    read("a 27 with 255", "01 01 00, 10 00, 28 27 FF 00 20, FF", [0, 0, 1, 0, 1, 2, 0]);
+    read("a 2A with 255", "01 01 00, 10 00, 28 2A FF 00 20, FF", refused(7, 5));
+    read("a 2A with 255 and a wrong path", "01 01 00, 10 00, 28 2A FF 01 20, FF", refused(6, 5));
+    read("a 2A with 254", "01 01 00, 10 00, 28 2A FE 00 20, FF", [0, 0, 1, 0, 1, 3, 0]);
+    read("5, then 6", "01 01 00, 28 22 21 01 00 26 00 20, FF", refused(5, 3));
+    read("6, then 5", "01 01 00, 28 22 26 00 21 01 00, FF", refused(6, 3));
+    read("18, then 1", "01 01 00, 28 22 24 24 24 24 24 24 24 20 FF, FF", refused(18, 3));
+
+    read("a later shape named", "01 01 00, 28 24 29 01, 20, FF", shapes(2));
+    read("a shape named that is not there", "01 01 00, 20, 28 24 29 02, FF", refused(9, 4));
+    read("a fresh shape named in its 28", "01 01 00, 28 22 20 29 01, FF", refused(9, 3));
+    read("a fresh shape named by an operand", "01 01 00, 28 24 20, 24 02, FF", refused(9, 6));
+    read("a fresh shape named by a target", "01 01 00, 28 24 20, 30 01 00 00, FF", refused(9, 6));
+    read("8 before 9, a 29", "01 01 00, 28 29 01, FF 00", refused(8, 7));
+
+    let tops = |count: usize| "20 ".repeat(count);
+    read("31 and 1", &format!("01 01 00, {} 28 20, FF", tops(31)), shapes(32));
+    read("31 and a named shape", &format!("01 01 00, {} 28 29 00, FF", tops(31)), shapes(32));
+    read("31 and 2", &format!("01 01 00, {} 28 24 20, FF", tops(31)), refused(19, 34));
+    read("the 33rd written, a 28 with nothing behind it", &format!("01 01 00, {} 28", tops(32)), refused(4, 35));
+    read("the 33rd written, a 28 with a fault", &format!("01 01 00, {} 28 FF", tops(32)), refused(4, 35));
+    read("2 and 30", &format!("01 01 00, 28 24 20, {} FF", tops(30)), shapes(32));
+    read("2 and 31", &format!("01 01 00, 28 24 20, {} FF", tops(31)), refused(19, 36));
+    read("the 33rd with a fault", &format!("01 01 00, 28 24 20, {} 26 00 00, FF", tops(30)), refused(6, 36));
+    read("the 33rd names a shape that is not there", &format!("01 01 00, 28 24 20, {} 24 FF, FF", tops(30)), refused(19, 36));
+
+    // 4 levels of ands over 16 tops: 31 parts
+    let many = "22 22 22 22 20 20 22 20 20 22 22 20 20 22 20 20 22 22 22 20 20 22 20 20 22 22 20 20 22 20 20";
+    read("32 in one", &format!("01 01 00, 28 24 {many}, FF"), shapes(32));
+    read("33 in one", &format!("01 01 00, 28 24 24 {many}, FF"), refused(19, 3));
+    read("33 in one, the last at fault", &format!("01 01 00, 28 22 {many} 21 01 00, FF"), refused(5, 3));
+    read("33 in one, then a fault", &format!("01 01 00, 28 24 22 {many} 21 01 00, FF"), refused(5, 3));
+    read("33 in one, then the input's end", &format!("01 01 00, 28 24 22 {many}"), refused(3, 3));
+    read("33 in one, then an unknown command", &format!("01 01 00, 28 22 {many} 20, 00"), refused(19, 3));
 }

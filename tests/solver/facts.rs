@@ -1,10 +1,30 @@
 //! Cases as facts for clingo and SWI-Prolog, and their answers.
 
+use crate::reference::parts::Part;
 use crate::reference::{Case, Path, Shape};
 use std::process::{Command, Stdio};
 
+/// What a solver goes by: the rules of the expansion, or each written shape as it is written, part by part.
+#[derive(Clone, Copy, PartialEq)]
+pub enum By {
+    Expansion,
+    Parts,
+}
+
+impl By {
+    /// How many shapes it has.
+    pub fn shapes(self, case: &Case) -> usize {
+        if self == By::Parts { case.written.len() } else { case.shapes.len() }
+    }
+
+    /// The values of its pairs, of those of all.
+    pub fn cut<'a>(self, case: &Case, values: &'a [u8]) -> &'a [u8] {
+        &values[..self.shapes(case) * case.nodes]
+    }
+}
+
 /// The facts that both solvers read.
-fn common(k: usize, case: &Case) -> String {
+fn common(k: usize, case: &Case, by: By) -> String {
     let mut text = String::new();
     for (p, a, b) in &case.edges {
         text += &format!("edge({k},{p},{a},{b}).\n");
@@ -19,7 +39,28 @@ fn common(k: usize, case: &Case) -> String {
         };
         text += &format!("path({k},{i},{term}).\n");
     }
-    text + &shape_facts(k, case)
+    text + &if by == By::Parts { part_facts(k, case) } else { shape_facts(k, case) }
+}
+
+fn part_facts(k: usize, case: &Case) -> String {
+    case.written.iter().enumerate().map(|(s, part)| format!("written({k},{s},{}).\n", part_term(part))).collect()
+}
+
+/// A part as a term, with its inner parts inside it.
+fn part_term(part: &Part) -> String {
+    let term = part_term;
+    match part {
+        Part::Top => "top".to_string(),
+        Part::Node(a) => format!("node({a})"),
+        Part::And(x, y) => format!("and({},{})", term(x), term(y)),
+        Part::Or(x, y) => format!("or({},{})", term(x), term(y)),
+        Part::Not(x) => format!("not({})", term(x)),
+        Part::Same(p, q) => format!("same({p},{q})"),
+        Part::All(p, x) => format!("all({p},{})", term(x)),
+        Part::AtLeast(n, p, x) => format!("least({n},{p},{})", term(x)),
+        Part::Named(s) => format!("named({s})"),
+        Part::AtMost(n, p, x) => format!("most({n},{p},{})", term(x)),
+    }
 }
 
 pub fn shape_facts(k: usize, case: &Case) -> String {
@@ -40,13 +81,13 @@ pub fn shape_facts(k: usize, case: &Case) -> String {
     text
 }
 
-pub fn facts(k: usize, case: &Case) -> String {
+pub fn facts(k: usize, case: &Case, by: By) -> String {
     // not is a word of clingo's
-    format!("case({k}).\nnodes({k},{}).\n{}", case.nodes, common(k, case).replace(",not(", ",deny("))
+    format!("case({k}).\nnodes({k},{}).\n{}", case.nodes, common(k, case, by).replace("not(", "deny("))
 }
 
-pub fn prolog_facts(k: usize, case: &Case) -> String {
-    format!("case({k},{},{}).\n{}", case.nodes, case.shapes.len(), common(k, case))
+pub fn prolog_facts(k: usize, case: &Case, by: By) -> String {
+    format!("case({k},{},{}).\n{}", case.nodes, by.shapes(case), common(k, case, by))
 }
 
 /// What a solver writes on a program. It has to end with the status given and to report nothing, or its answers are none.
@@ -64,15 +105,16 @@ fn output(name: &str, program: &str, ending: &str, status: i32, command: &mut Co
     out.into_owned()
 }
 
-/// clingo on a program beside judge.lp. Its status is a set of bits: 10 an answer was found, 20 the search was exhausted.
+/// clingo on a program beside judge.lp and parts.lp. Its status is a set of bits: 10 an answer was found, 20 the search was exhausted.
 pub fn clingo(name: &str, program: &str, words: &[&str]) -> String {
-    output(name, program, "lp", 30, Command::new("clingo").args(words).args(["--warn=none", "tests/solver/judge.lp"]))
+    output(name, program, "lp", 30, Command::new("clingo").args(words).args(["--warn=none", "tests/solver/judge.lp", "tests/solver/parts.lp"]))
 }
 
-/// SWI-Prolog's answers to a program after judge.pl. Where they break off, what comes after them ends with status 2.
-pub fn swipl(name: &str, program: &str) -> String {
-    let program = format!("{program}:- initialization((answers, halt)).\n");
-    output(name, &program, "pl", 0, Command::new("swipl").args(["--stack-limit=4g", "-q", "-t", "halt(2)", "-f", "tests/solver/judge.pl"]))
+/// SWI-Prolog's answers to a program after judge.pl and parts.pl. Where they break off, what comes after them ends with status 2.
+pub fn swipl(name: &str, program: &str, by: By) -> String {
+    let answers = if by == By::Parts { "part_answers" } else { "answers" };
+    let program = format!("{program}:- initialization(({answers}, halt)).\n");
+    output(name, &program, "pl", 0, Command::new("swipl").args(["--stack-limit=4g", "-q", "-t", "halt(2)", "-f", "tests/solver/judge.pl", "tests/solver/parts.pl"]))
 }
 
 pub type Atoms<'a> = Vec<(&'a str, Vec<usize>)>;
@@ -90,8 +132,8 @@ fn atom(text: &str) -> (&str, Vec<usize>) {
 }
 
 /// The assignment of case k in an answer set.
-pub fn assignment(k: usize, case: &Case, atoms: &Atoms) -> Vec<u8> {
-    let mut values = vec![0; case.pairs()];
+pub fn assignment(k: usize, case: &Case, by: By, atoms: &Atoms) -> Vec<u8> {
+    let mut values = vec![0; by.shapes(case) * case.nodes];
     for (name, numbers) in atoms {
         if *name != "on" && numbers[0] == k {
             values[case.pair(numbers[1], numbers[2])] += 1;

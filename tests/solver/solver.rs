@@ -1,4 +1,5 @@
 //! The library against public solvers: clingo enumerates all stable assignments of small cases and gives the cautious and brave consequences of larger ones; SWI-Prolog gives the well-founded model.
+//! Rules inside rules are given to them twice: as the expansion, and as they are written, which the expansion has to agree with.
 
 #[allow(dead_code)]
 #[path = "../differential/calls.rs"]
@@ -84,6 +85,10 @@ struct Tally {
     /// assignments that check has to accept, and to refuse
     stable: usize,
     unstable: usize,
+    /// cases held to a solver part by part too, by what it was asked
+    enumerated_by_parts: usize,
+    consequences_by_parts: usize,
+    well_founded_by_parts: usize,
 }
 
 impl Work for Tally {
@@ -102,6 +107,9 @@ impl Tally {
             ("with several stable assignments", self.several),
             ("stable assignments", self.stable),
             ("other assignments", self.unstable),
+            ("all stable assignments by parts", self.enumerated_by_parts),
+            ("consequences by parts", self.consequences_by_parts),
+            ("well-founded model by parts", self.well_founded_by_parts),
         ];
         ("compared", counts.map(|(name, count)| (name.to_string(), count)).to_vec())
     }
@@ -120,6 +128,9 @@ fn hold_to_all(tally: &mut Tally, r: &mut Random, asked: &Asked, stable: &BTreeS
         }
     }
     for values in stable {
+        if asked.case.values_by_parts(values) != *values {
+            asked.fail(format!("in the stable assignment {values:?} a shape has another value than its part"));
+        }
         for levels in [as_solved(&asked.case, values), favourable(&asked.case, values)] {
             if !asked.accepts(values, &levels) {
                 asked.fail(format!("check refuses the stable assignment {values:?} with levels {levels:?}"));
@@ -147,28 +158,46 @@ fn hold_to_all(tally: &mut Tally, r: &mut Random, asked: &Asked, stable: &BTreeS
 }
 
 /// All stable assignments of many cases in one run: an answer set selects one case and holds one assignment of it.
-fn enumerate(tally: &mut Tally, r: &mut Random, batch: &[Asked]) {
+fn all_stable(batch: &[Asked], by: By) -> Vec<BTreeSet<Vec<u8>>> {
     let mut program = String::from("1 { on(K) : case(K) } 1.\n#show on/1. #show v/3. #show p/3.\n");
     for (k, asked) in batch.iter().enumerate() {
-        program += &facts(k, &asked.case);
+        program += &facts(k, &asked.case, by);
     }
     let out = clingo("enumerate", &program, &["0"]);
     let mut stable = vec![BTreeSet::new(); batch.len()];
     for answer in answers(&out) {
         let k = answer.iter().find(|(name, _)| *name == "on").expect("one case is selected").1[0];
-        stable[k].insert(assignment(k, &batch[k].case, &answer));
+        stable[k].insert(assignment(k, &batch[k].case, by, &answer));
     }
+    stable
+}
+
+fn enumerate(tally: &mut Tally, r: &mut Random, batch: &[Asked]) -> Vec<BTreeSet<Vec<u8>>> {
+    let stable = all_stable(batch, By::Expansion);
     for (asked, stable) in batch.iter().zip(&stable) {
         hold_to_all(tally, r, asked, stable);
     }
     tally.enumerated += batch.len();
+    stable
+}
+
+/// The same, and the expansion's stable assignments, cut to the written shapes, are those of the parts as they are written, one for one.
+fn enumerate_nested(tally: &mut Tally, r: &mut Random, batch: &[Asked]) {
+    let stable = enumerate(tally, r, batch);
+    for ((asked, stable), by_parts) in batch.iter().zip(&stable).zip(&all_stable(batch, By::Parts)) {
+        let cut: BTreeSet<Vec<u8>> = stable.iter().map(|values| By::Parts.cut(&asked.case, values).to_vec()).collect();
+        if cut != *by_parts || cut.len() != stable.len() {
+            asked.fail(format!("clingo: {} stable assignments by parts, {} of the expansion, {} cut to the written shapes", by_parts.len(), stable.len(), cut.len()));
+        }
+    }
+    tally.enumerated_by_parts += batch.len();
 }
 
 /// Cautious and brave consequences of cases beside each other. Each has a stable assignment, so those of all together are those of each.
-fn consequences(tally: &mut Tally, batch: &[Asked]) {
+fn consequences(tally: &mut Tally, batch: &[Asked], by: By) {
     let mut program = String::from("on(K) :- case(K).\n#show v/3. #show p/3.\n");
     for (k, asked) in batch.iter().enumerate() {
-        program += &facts(k, &asked.case);
+        program += &facts(k, &asked.case, by);
     }
     let last = |mode: &str| {
         let out = clingo("consequences", &program, &["0", mode]);
@@ -182,32 +211,37 @@ fn consequences(tally: &mut Tally, batch: &[Asked]) {
             of_case.map(|(_, numbers)| asked.case.pair(numbers[1], numbers[2])).collect()
         };
         let (valid, possible) = (borrowed(&cautious, "v"), borrowed(&brave, "p"));
-        for pair in 0..asked.values.len() {
-            let value = asked.values[pair];
+        for (pair, &value) in by.cut(&asked.case, &asked.values).iter().enumerate() {
             if (value == 2) != valid.contains(&pair) || (value > 0) != possible.contains(&pair) {
                 asked.fail(format!("clingo: pair {pair} is solved {value}; valid in all {}, possible in some {}", valid.contains(&pair), possible.contains(&pair)));
             }
         }
     }
-    tally.consequences += batch.len();
+    match by {
+        By::Expansion => tally.consequences += batch.len(),
+        By::Parts => tally.consequences_by_parts += batch.len(),
+    }
 }
 
 /// The well-founded model of many cases, one after another in one process.
-fn well_founded(tally: &mut Tally, batch: &[Asked]) {
+fn well_founded(tally: &mut Tally, batch: &[Asked], by: By) {
     let mut program = String::new();
     for (k, asked) in batch.iter().enumerate() {
-        program += &prolog_facts(k, &asked.case);
+        program += &prolog_facts(k, &asked.case, by);
     }
-    let out = swipl("well-founded", &program);
+    let out = swipl("well-founded", &program, by);
     let lines: Vec<&str> = out.lines().collect();
     for (k, asked) in batch.iter().enumerate() {
-        let values: String = asked.values.iter().map(|v| v.to_string()).collect();
+        let values: String = by.cut(&asked.case, &asked.values).iter().map(|v| v.to_string()).collect();
         let expected = format!("{k} {values}");
         if lines.get(k) != Some(&expected.as_str()) {
             asked.fail(format!("SWI-Prolog has {:?}, the library {expected:?}", lines.get(k)));
         }
     }
-    tally.well_founded += batch.len();
+    match by {
+        By::Expansion => tally.well_founded += batch.len(),
+        By::Parts => tally.well_founded_by_parts += batch.len(),
+    }
 }
 
 fn batch(r: &mut Random, count: usize, size: impl Fn(&mut Random) -> Size) -> Vec<Asked> {
@@ -219,6 +253,17 @@ fn many_nots(r: &mut Random) -> Size {
     let nodes = r.range(1, 5);
     let order = r.pick(&[Order::Any, Order::Next]);
     Size { nodes, shapes: r.range(1, 16 / nodes), edges: r.range(1, 8), paths: r.range(0, 4), nots: r.range(2, 10), order, ..small(r) }
+}
+
+/// The same with some of the shapes fresh.
+fn many_nots_nested(r: &mut Random) -> Size {
+    let size = many_nots(r);
+    let shapes = r.range(1, size.shapes);
+    Size { shapes, nested: r.range(8, 16), fresh: size.shapes - shapes, ..size }
+}
+
+fn small_or_medium_nested(r: &mut Random) -> Size {
+    if r.one_in(2) { small_nested(r) } else { medium_nested(r) }
 }
 
 fn of_any_size(r: &mut Random) -> Size {
@@ -246,9 +291,27 @@ fn kinds() -> Vec<Kind<Tally>> {
             cases.push(Asked::new(&clashes(r, 2, 1)));
             enumerate(tally, r, &cases);
         }),
-        Kind::drawn("medium", 12, |tally, r, _| consequences(tally, &batch(r, 20, medium))),
-        Kind::drawn("any size", 8, |tally, r, _| well_founded(tally, &batch(r, 60, of_any_size))),
-        Kind::listed("chains", 1, |tally, _, _| well_founded(tally, &chains())),
+        Kind::drawn("medium", 12, |tally, r, _| consequences(tally, &batch(r, 20, medium), By::Expansion)),
+        Kind::drawn("any size", 8, |tally, r, _| well_founded(tally, &batch(r, 60, of_any_size), By::Expansion)),
+        Kind::listed("chains", 1, |tally, _, _| well_founded(tally, &chains(), By::Expansion)),
+        Kind::drawn("nested tiny", 6, |tally, r, _| {
+            let cases = batch(r, 40, tiny_nested);
+            enumerate_nested(tally, r, &cases);
+        }),
+        Kind::drawn("nested, many nots", 8, |tally, r, _| {
+            let cases = batch(r, 30, many_nots_nested);
+            enumerate_nested(tally, r, &cases);
+        }),
+        Kind::drawn("nested medium", 6, |tally, r, _| {
+            let cases = batch(r, 20, medium_nested);
+            consequences(tally, &cases, By::Expansion);
+            consequences(tally, &cases, By::Parts);
+        }),
+        Kind::drawn("nested, small or medium", 6, |tally, r, _| {
+            let cases = batch(r, 60, small_or_medium_nested);
+            well_founded(tally, &cases, By::Expansion);
+            well_founded(tally, &cases, By::Parts);
+        }),
     ]
 }
 

@@ -3,14 +3,14 @@ use Prim.Native.Nat.{ℕ, zero, suc, _+_, _*_, _/_, _%_, _≤_, _<_}
 use native.Mathlib.Omega.{arith}
 use mathlib.Core.Path.{_≡_, refl, sym, ap, _∙_}
 use mathlib.Core.Logic.{⊎-elim, _↔_}
-use mathlib.Core.Bool.{Bool, true, false, cond, _&&_, false≢true, and-eq-true-iff}
-use mathlib.Core.List.{List, [], _∷_, _++_, append-assoc, append-nil}
+use mathlib.Core.Bool.{Bool, true, false, _&&_, false≢true, and-eq-true-iff}
+use mathlib.Core.List.{List, [], _∷_, _++_, map, append-assoc, append-nil, map-append}
 use lib.ListN.{length, getD, drop, length-append, length-drop}
-use lib.Seq.{getD-append-seam, getD-drop, drop-drop}
+use lib.Seq.{getD-append-seam, drop-drop}
 use lib.Dec.{eqb, ltb}
 use borrow.Author.Tests.{lt-ltb, le-ltb, le-leb, leb-true, ne-eqb, eqb-true, eqb-false}
 use Rattle.fixpoint.specs.Lists.{all}
-use Rattle.fixpoint.proofs.Lists.{tests, bool-cases, all-in, all-append, all-map, all-mono}
+use Rattle.fixpoint.proofs.Lists.{tests, bool-cases, by-test, all-in, all-append, all-map, all-mono}
 use Rattle.cases.specs.declared.command.Edge.{Edge}
 use Rattle.cases.specs.declared.command.Target.{Target}
 use Rattle.cases.specs.declared.command.Row.{Row}
@@ -21,19 +21,21 @@ use Rattle.cases.specs.declared.command.PathRule.{PathRule}
 use Rattle.cases.specs.declared.command.PathRule.the-variants.{Forward, Backward, Union, Sequence, Star}
 use Rattle.cases.specs.declared.command.ShapeRule.{ShapeRule}
 use Rattle.cases.specs.declared.command.ShapeRule.the-variants.{Top, Node, And, Or, Not, Same, All, AtLeast}
-use Rattle.cases.specs.declared.answers.Step.{Step}
 use Rattle.cases.specs.declared.answers.Step.the-variants.{Is}
 use Rattle.cases.specs.declared.answers.Taken.{Taken}
-use Rattle.cases.specs.declared.format.Format.{Format}
 use Rattle.cases.specs.Case.{Case, emptyCase, countsOf, pathRule, pathsOfPath, pathsOfShape, references}
 use Rattle.cases.specs.Counts.{nodeLimit}
-use Rattle.cases.specs.Format.{formatOf, groupOf, widthOf, takenOf, numberAt, rowOf, complete, operandsOf, pathRuleOf, shapeRuleOf, commandOf, commandAt}
-use Rattle.cases.specs.Faults.{inOrder, shapeNodesKnown, pathPathsEarlier, shapePathsEarlier, shapeLeastPositive}
-use Rattle.cases.specs.Reading.{judged, stepAt, noRefusal, Named}
-use Rattle.cases.specs.Reading.{Progress, start, add, shapesNamed, namedAt, pass, unknownShape, afterEnd, Outcome, refused, finish, isEnd, stepped, walk, outcome}
+use Rattle.cases.specs.Format.{formatOf, groupOf, widthOf, takenOf, numberAt, rowOf, operandsBy, pathRuleOf, shapeRuleOf, commandOf, commandAt}
+use Rattle.cases.specs.Faults.{inOrder, withinLimit, shapeNodesKnown, pathPathsEarlier, shapePathsEarlier, shapeLeastPositive}
+use Rattle.cases.specs.Parts.{Plain, names}
+use Rattle.cases.specs.Reading.{judged, stepAt, noRefusal, Note, Progress, start, countsSoFar, add, shapesNamed, namedAt, Entry, Shape, Other, pass}
+use Rattle.cases.specs.Reading.{Found, Good, entryOf, roomFor, foundAt, unknownShape, afterEnd, Walked, refused, finish, isEnd, isEndEntry, stepped, walk, walked}
+use Rattle.cases.specs.Reading.{Outcome, expanded, outcome}
 use Rattle.cases.specs.Sound.{Sound, Limited}
 use Rattle.cases.specs.Encoding.{twoBytes, encodeEdge, encodePath, encodeShape, encodeTarget, encodeAll, encode, pathByte, shapeByte, OneByteEach, Readable}
-use Rattle.cases.proofs.Steps.{step-shows, Command-of, step-cases}
+use Rattle.cases.proofs.Expansion.{ruled, expansion-passes, plain-length, plain-expansion}
+use Rattle.cases.proofs.Opening.{byte-blind}
+use Rattle.cases.proofs.Steps.{oneByte, EntryShows, walk-keeps}
 use Rattle.cases.proofs.Sound.{outcome-sound, outcome-limited}
 
 -- ---- Lists of bytes: a number below 65,536 is two, and each number below 256 is one
@@ -160,79 +162,148 @@ order-later last g next two h e =
 
 -- ---- One command: the walk takes it and stands before what is behind it
 
+-- what has been read is the case c, each of whose shapes is written plainly
+record Holds (p : Progress) (c : Case) : Type 0 where
+  case-is : p .case ≡ record { nodes = c .nodes; edges = c .edges; paths = c .paths; shapes = []; targets = c .targets }
+  written-is : p .written ≡ map Plain (c .shapes)
+
+counts-held : {p : Progress} {c : Case} → Holds p c → countsSoFar p ≡ countsOf c
+unfolding countsSoFar countsOf
+counts-held {c = c} h = rw (h .case-is, h .written-is, plain-length (c .shapes))
+
+-- there is room for one shape more, none being fresh
+room-held : {p : Progress} {c : Case} → Holds p c → (command : Command) → withinLimit (countsOf c) command ≡ true → roomFor p (entryOf command) ≡ true
+unfolding countsOf
+room-held h (Nodes n) w = refl
+room-held h (EdgeCommand e) w = refl
+room-held h (PathCommand r) w = refl
+room-held {p} {c} h (ShapeCommand r) w =
+    let l = c .shapes ++ (r ∷ []) in
+    let e : map Plain (c .shapes) ++ (Plain r ∷ []) ≡ map Plain l = sym (map-append Plain (c .shapes) (r ∷ [])) in
+    rw (h .written-is, e, plain-expansion l) (le-leb (length l) 32 (omega (arith, tests, length-append (c .shapes) (r ∷ []))))
+room-held h (TargetCommand t) w = refl
+room-held h End w = refl
+
+holds-more : {p : Progress} {c : Case} (at g : ℕ) (command : Command) → Holds p c → Holds (pass p at g (entryOf command)) (add c command)
+unfolding pass add
+holds-more at g (Nodes n) h = record { case-is = rw (h .case-is); written-is = h .written-is }
+holds-more at g (EdgeCommand e) h = record { case-is = rw (h .case-is); written-is = h .written-is }
+holds-more at g (PathCommand r) h = record { case-is = rw (h .case-is); written-is = h .written-is }
+holds-more {c = c} at g (ShapeCommand r) h = record { case-is = rw (h .case-is); written-is = rw (h .written-is) (sym (map-append Plain (c .shapes) (r ∷ []))) }
+holds-more at g (TargetCommand t) h = record { case-is = rw (h .case-is); written-is = h .written-is }
+holds-more at g End h = record { case-is = rw (h .case-is); written-is = h .written-is }
+
+entry-passes : (p : Progress) (at g : ℕ) (command : Command)
+    → (pass p at g (entryOf command) .last ≡ g) × (pass p at g (entryOf command) .named ≡ p .named ++ namedAt at (shapesNamed command))
+    × (isEndEntry (entryOf command) ≡ isEnd command)
+unfolding pass names shapesNamed
+entry-passes p at g (Nodes n) = (refl, refl, refl)
+entry-passes p at g (EdgeCommand e) = (refl, refl, refl)
+entry-passes p at g (PathCommand r) = (refl, refl, refl)
+entry-passes p at g (ShapeCommand r) = (refl, refl, refl)
+entry-passes p at g (TargetCommand t) = (refl, refl, refl)
+entry-passes p at g End = (refl, refl, refl)
+
 -- a command of the group g that `write` puts before other bytes, and that has no fault behind the case c if there are n shapes in the end
 record Fits (n g : ℕ) (c : Case) (command : Command) (write : List ℕ → List ℕ) : Type 0 where
   is : (l : List ℕ) → found (write l) ≡ record { command = command; group = g; rest = l }
   bytes : (l : List ℕ) → Bytes l → Bytes (write l)
-  passes : (row : Row) (taken : Taken) → judged c command row taken ≡ Is command row taken
+  within : withinLimit (countsOf c) command ≡ true
+  passes : (row : Row) (taken : Taken) → judged (countsOf c) command row taken ≡ Is command row taken
   named : all (shapesNamed command) (λ s. ltb s n) ≡ true
 
 -- the walk stands before these bytes, with fuel above them and behind the case c; the shapes named so far are below n
 record Stands (n : ℕ) (c : Case) (bytes : List ℕ) (fuel : ℕ) (s : List ℕ) (at : ℕ) (p : Progress) : Type 0 where
   left : drop at s ≡ bytes
   fuelled : length s < at + fuel
-  case-is : p .case ≡ c
+  holds : Holds p c
   known : all (p .named) (λ r. ltb (r .shape) n) ≡ true
+
+-- the walk comes to the case c
+record ReadAs (w : Walked) (c : Case) : Type 0 where
+  unrefused : w .refusal ≡ noRefusal
+  holds : Holds (w .read) c
 
 -- bytes that, read behind the case `before` and where the group g can follow, give the case c
 record Reads (n g : ℕ) (before : Case) (bytes : List ℕ) (c : Case) : Type 0 where
   some : 1 ≤ length bytes
   are-bytes : Bytes bytes
   gives : {fuel : ℕ} {s : List ℕ} {at : ℕ} {p : Progress} → Stands n before bytes fuel s at p → inOrder (p .last) g ≡ true
-      → walk fuel s at p ≡ record { refusal = noRefusal; case = c }
+      → ReadAs (walk fuel s at p) c
 
--- the step that is taken
-abbrev stepOf : Command → ℕ → List ℕ → Step
-stepOf command g bytes = Is command (rowOf bytes) (record { group = g; width = widthAt bytes })
+-- what is found
+abbrev foundOf : Command → ℕ → List ℕ → Found
+foundOf command g bytes = Good (entryOf command) (record { group = g; width = widthAt bytes })
+
+-- a byte of a known group is none of 28
+not-nested : (b g : ℕ) → groupOf b ≡ g → 0 < g → eqb b 0x28 ≡ false
+unfolding formatOf
+not-nested b g e h = by-test (eqb b 0x28) (λ q. absurd (let z : 0 ≡ g = rw (eqb-true b 0x28 q) at e in omega arith)) (λ q. q)
 
 module _ {n g : ℕ} {c : Case} {command : Command} {write : List ℕ → List ℕ} (m : Fits n g c command write)
     (l : List ℕ) (whole : widthAt (write l) ≤ length (write l)) where
+  group-is : groupOf (getD (write l) 0 0) ≡ g
+  unfolding found
+  group-is = ap (λ o. o .group) (m .is l)
+
   step-fits : {fuel : ℕ} {s : List ℕ} {at : ℕ} {p : Progress} → Stands n c (write l) fuel s at p → inOrder (p .last) g ≡ true
-      → stepAt (p .last) (p .case) (drop at s) ≡ stepOf command g (write l)
-  unfolding found stepAt operandsOf complete takenOf
+      → stepAt (p .last) (countsSoFar p) (write l) ≡ Is command (rowOf (write l)) (record { group = g; width = widthAt (write l) })
+  unfolding found stepAt operandsBy takenOf widthOf
   step-fits {p} b order =
-      rw (b .left, b .case-is, ap (λ o. o .group) (m .is l), ap (λ o. o .command) (m .is l), lt-ltb 0 g (order-some (p .last) g order), order)
+      rw (counts-held (b .holds), group-is, ap (λ o. o .command) (m .is l), lt-ltb 0 g (order-some (p .last) g order), order)
       (rw (le-leb (widthAt (write l)) (length (write l)) whole) (m .passes (rowOf (write l)) (record { group = g; width = widthAt (write l) })))
+
+  found-fits : {fuel : ℕ} {s : List ℕ} {at : ℕ} {p : Progress} → Stands n c (write l) fuel s at p → inOrder (p .last) g ≡ true
+      → foundAt p (drop at s) ≡ foundOf command g (write l)
+  unfolding foundAt
+  found-fits {p} b order =
+      rw (b .left, not-nested (getD (write l) 0 0) g group-is (order-some (p .last) g order))
+      (rw (step-fits b order) (rw (room-held (b .holds) command (m .within))))
 
   walk-starts : {fuel : ℕ} {s : List ℕ} {at : ℕ} {p : Progress} → Stands n c (write l) fuel s at p → at < length s
   unfolding widthOf
   walk-starts {s} {at} b = omega (arith, ap length (b .left), length-drop at s)
 
-  walk-fits : {o : Outcome} {fuel : ℕ} {s : List ℕ} {at : ℕ} {p : Progress}
-      → ((less : ℕ) → Stands n c (write l) (suc less) s at p → stepped (walk less s) s at p (stepOf command g (write l)) ≡ o)
-      → Stands n c (write l) fuel s at p → inOrder (p .last) g ≡ true → walk fuel s at p ≡ o
+  walk-fits : {after : Case} {fuel : ℕ} {s : List ℕ} {at : ℕ} {p : Progress}
+      → ((less : ℕ) → Stands n c (write l) (suc less) s at p → ReadAs (stepped (walk less s) s at p (foundOf command g (write l))) after)
+      → Stands n c (write l) fuel s at p → inOrder (p .last) g ≡ true → ReadAs (walk fuel s at p) after
   unfolding walk
   walk-fits {fuel = zero} f b order = absurd (omega (arith, walk-starts b))
-  walk-fits {fuel = suc less} {s} {at} f b order = rw (lt-ltb at (length s) (walk-starts b), walk) (rw (step-fits b order) (f less b))
+  walk-fits {fuel = suc less} {s} {at} f b order = rw (lt-ltb at (length s) (walk-starts b), walk) (rw (found-fits b order) (f less b))
 
   stands-next : {fuel : ℕ} {s : List ℕ} {at : ℕ} {p : Progress} → Stands n c (write l) (suc fuel) s at p
-      → Stands n (add c command) l fuel s (at + widthAt (write l)) (pass p at g command)
-  unfolding found pass namedAt widthOf
+      → Stands n (add c command) l fuel s (at + widthAt (write l)) (pass p at g (entryOf command))
+  unfolding found namedAt widthOf
   stands-next {s} {at} {p} b =
-      let t : Named → Bool = λ r. ltb (r .shape) n in
+      let t : Note → Bool = λ r. ltb (r .shape) n in
       let new : all (namedAt at (shapesNamed command)) t ≡ true = all-map (λ x. record { shape = x; place = at }) (shapesNamed command) t ∙ m .named in
       record {
         left = sym (drop-drop (widthAt (write l)) at s) ∙ rw (b .left) (ap (λ o. o .rest) (m .is l));
         fuelled = omega arith;
-        case-is = rw (b .case-is);
-        known = all-append (p .named) (namedAt at (shapesNamed command)) t ∙ rw (b .known) new;
+        holds = holds-more at g command (b .holds);
+        known = rw (entry-passes p at g command .1) (all-append (p .named) (namedAt at (shapesNamed command)) t ∙ rw (b .known) new);
       }
 
 -- a command that isn't the end, before bytes that are read: it is whole, since there are bytes behind it
 command-reads : {n g next : ℕ} {c after : Case} {command : Command} {write : List ℕ → List ℕ} {l : List ℕ} → Fits n g c command write → isEnd command ≡ false
     → Reads n next (add c command) l after → inOrder g next ≡ true → Reads n g c (write l) after
-unfolding found stepped pass
-command-reads {write} {l} m goes-on r order =
+unfolding found stepped
+command-reads {g = g} {command = command} {write} {l} m goes-on r order =
     let w = widthAt (write l) in
     let whole : w < length (write l) = omega (arith, ap (λ o. length (o .rest)) (m .is l), length-drop w (write l)) in
     record {
       some = omega arith;
       are-bytes = m .bytes l (r .are-bytes);
-      gives = walk-fits m l (omega arith) (λ less b. rw goes-on (r .gives (stands-next m l (omega arith) b) order));
+      gives =
+          λ {fuel} {s} {at} {p}.
+          walk-fits m l (omega arith)
+          (λ less b.
+          rw (entry-passes p at g command .2, goes-on)
+          (r .gives (stands-next m l (omega arith) b) (rw (entry-passes p at g command .0) order)));
     }
 
 -- the end: nothing is behind it, and no shape is unknown
-unknownShape-known : (n : ℕ) (l : List Named) → all l (λ r. ltb (r .shape) n) ≡ true → unknownShape n l ≡ noRefusal
+unknownShape-known : (n : ℕ) (l : List Note) → all l (λ r. ltb (r .shape) n) ≡ true → unknownShape n l ≡ noRefusal
 unfolding unknownShape all
 unknownShape-known n [] h = refl
 unknownShape-known n (r ∷ l) h =
@@ -241,7 +312,7 @@ unknownShape-known n (r ∷ l) h =
 
 end-fits : {n : ℕ} {c : Case} → Fits n 6 c End (λ l. 0xff ∷ l)
 unfolding judged shapesNamed all
-end-fits = record { is = found-end; bytes = λ l. bytes-more (omega arith); passes = λ row taken. refl; named = refl }
+end-fits = record { is = found-end; bytes = λ l. bytes-more (omega arith); within = refl; passes = λ row taken. refl; named = refl }
 
 end-reads : {c : Case} → Reads (length (c .shapes)) 6 c (0xff ∷ []) c
 unfolding stepped finish afterEnd widthOf formatOf all
@@ -254,7 +325,8 @@ end-reads {c} =
           walk-fits end-fits [] (omega arith)
           (λ less b.
           let e = le-ltb (at + 1) (length s) (omega (arith, ap length (b .left), length-drop at s)) in
-          rw (e, b .case-is, unknownShape-known (length (c .shapes)) (p .named) (b .known)));
+          let written : length (p .written) ≡ length (c .shapes) = rw (b .holds .written-is) (plain-length (c .shapes)) in
+          rw (e, written, unknownShape-known (length (c .shapes)) (p .named) (b .known)) (record { unrefused = refl; holds = b .holds }));
     }
 
 -- ---- Commands of one kind, one behind another: the case before each is the case with those of the list that stand before it
@@ -315,6 +387,7 @@ module _ (c : Case) (k : Sound c) (m : Limited c) (o : OneByteEach c) where
         record {
           is = λ l. found-edge l e;
           bytes = λ l. bytes-edge (c .nodes) e (omega arith) (in-passes i (λ e. ltb (e .property .0) 256) (o .edges)) ends;
+          within = in-limit i (m .edges-limited);
           passes = λ row taken. rw (in-limit i (m .edges-limited), ends);
           named = refl;
         };
@@ -332,6 +405,7 @@ module _ (c : Case) (k : Sound c) (m : Limited c) (o : OneByteEach c) where
         record {
           is = λ l. found-path l r;
           bytes = λ l b. bytes-path r l (in-passes i pathByte (o .paths)) (bytes-below n (pathsOfPath r) (omega (arith, in-room i)) earlier b);
+          within = in-limit i (m .paths-limited);
           passes = λ row taken. rw (in-limit i (m .paths-limited), earlier);
           named = refl;
         };
@@ -354,6 +428,7 @@ module _ (c : Case) (k : Sound c) (m : Limited c) (o : OneByteEach c) where
               bytes-shape (c .nodes) r l (omega arith) (in-passes i shapeByte (o .shapes)) nodes
               (bytes-below (length (c .paths)) (pathsOfShape r) (omega arith) paths
               (bytes-below (length (c .shapes)) (references r) (omega arith) named b));
+          within = in-limit i (m .shapes-limited);
           passes = λ row taken. rw (in-limit i (m .shapes-limited), nodes, paths, in-passes i shapeLeastPositive (k .least-positive));
           named = named;
         };
@@ -371,6 +446,7 @@ module _ (c : Case) (k : Sound c) (m : Limited c) (o : OneByteEach c) where
         record {
           is = λ l. found-target l t;
           bytes = λ l. bytes-target t (omega (arith, tests)) (omega (arith, tests));
+          within = in-limit i (m .targets-limited);
           passes = λ row taken. rw (in-limit i (m .targets-limited), node);
           named = rw shape;
         };
@@ -381,6 +457,7 @@ module _ (c : Case) (k : Sound c) (m : Limited c) (o : OneByteEach c) where
   nodes-fits = record {
     is = λ l. found-nodes l (c .nodes);
     bytes = λ l b. bytes-more (omega arith) (bytes-two (omega arith) b);
+    within = le-leb (c .nodes) nodeLimit (m .nodes-limited);
     passes = λ row taken. rw (le-leb (c .nodes) nodeLimit (m .nodes-limited));
     named = refl;
   }
@@ -394,85 +471,62 @@ module _ (c : Case) (k : Sound c) (m : Limited c) (o : OneByteEach c) where
       let edges = reads-all edge-kind paths (omega arith) in
       command-reads nodes-fits refl edges refl
 
+-- what has been read expands to the case, whose shapes are written plainly
+expanded-held : {p : Progress} {c : Case} → Holds p c → expanded p ≡ c
+unfolding expanded
+expanded-held {c = c} h = rw (h .case-is, h .written-is, plain-expansion (c .shapes))
+
 pub read-back : (c : Case) → Sound c → Limited c → OneByteEach c → _≡_ {A = Outcome} (outcome (encode c)) (record { refusal = noRefusal; case = c })
-unfolding outcome start all
-read-back c k m o = encode-reads c k m o .gives (record { left = refl; fuelled = omega arith; case-is = refl; known = refl }) refl
+unfolding outcome walked start emptyCase all
+read-back c k m o =
+    let begun : Stands (length (c .shapes)) emptyCase (encode c) (suc (length (encode c))) (encode c) 0 start =
+    record { left = refl; fuelled = omega arith; holds = record { case-is = refl; written-is = refl }; known = refl } in
+    let r = encode-reads c k m o .gives begun refl in
+    rw (r .unrefused, expanded-held (r .holds))
 
 -- ---- Of bytes, reading gives properties and least numbers of one byte
 
-oneByte : Command → Bool
-oneByte (Nodes n) = true
-oneByte (EdgeCommand e) = ltb (e .property .0) 256
-oneByte (PathCommand r) = pathByte r
-oneByte (ShapeCommand r) = shapeByte r
-oneByte (TargetCommand t) = true
-oneByte End = true
+record BytesSoFar (p : Progress) : Type 0 where
+  edges : all (p .case .edges) (λ e. ltb (e .property .0) 256) ≡ true
+  paths : all (p .case .paths) pathByte ≡ true
+  shapes : all (p .written) (ruled shapeByte) ≡ true
 
--- so it is for the command byte b if its group and widths are f
-record OneByte (s : List ℕ) (b : ℕ) (f : Format) : Type 0 where
-  one : oneByte (commandOf (f .0) (b, numberAt s 1 (f .1), numberAt s (1 + f .1) (f .2), numberAt s (1 + f .1 + f .2) (f .3))) ≡ true
-
-module _ (s : List ℕ) (b : ℕ) where
-  choose : (n : ℕ) (x y : Format) → OneByte s n x → OneByte s b y → OneByte s b (cond (eqb b n) x y)
-  choose n x y h k = ⊎-elim (λ e. rw e (rw (eqb-true b n e) h)) (λ e. rw e k) (bool-cases (eqb b n))
-
-  -- choose goes through the bytes of the format; a property or a least number is the first operand of each
-  format-one-byte : ltb (getD s 1 0) 256 ≡ true → OneByte s b (formatOf b)
-  unfolding formatOf commandOf pathRuleOf shapeRuleOf numberAt oneByte
-  format-one-byte h = search choose depth 64
-
-bytes-at : (s : List ℕ) (i : ℕ) → all s (λ b. ltb b 256) ≡ true → ltb (getD s i 0) 256 ≡ true
+all-drop : (s : List ℕ) (n : ℕ) (t : ℕ → Bool) → all s t ≡ true → all (drop n s) t ≡ true
 unfolding all
-bytes-at [] i h = refl
-bytes-at (x ∷ s) zero h = and-eq-true-iff (ltb x 256) (all s (λ b. ltb b 256)) .0 h .0
-bytes-at (x ∷ s) (suc i) h = bytes-at s i (and-eq-true-iff (ltb x 256) (all s (λ b. ltb b 256)) .0 h .1)
+all-drop s zero t h = h
+all-drop [] (suc n) t h = h
+all-drop (x ∷ s) (suc n) t h = all-drop s n t (and-eq-true-iff (t x) (all s t) .0 h .1)
 
-command-one-byte : (s : List ℕ) (at : ℕ) → all s (λ b. ltb b 256) ≡ true → oneByte (commandAt (drop at s)) ≡ true
-unfolding commandAt rowOf
-command-one-byte s at h = format-one-byte (drop at s) (getD (drop at s) 0 0) (rw (getD-drop at s 1 0) (bytes-at s (at + 1) h)) .one
+command-byte : (p : Progress) (at g : ℕ) (command : Command) → oneByte command ≡ true → BytesSoFar p → BytesSoFar (pass p at g (Other command))
+unfolding oneByte pass add all
+command-byte p at g (Nodes n) h o = record { edges = o .edges; paths = o .paths; shapes = o .shapes }
+command-byte p at g (EdgeCommand e) h o = record { edges = rw (all-append, o .edges, h); paths = o .paths; shapes = o .shapes }
+command-byte p at g (PathCommand r) h o = record { edges = o .edges; paths = rw (all-append, o .paths, h); shapes = o .shapes }
+command-byte p at g (ShapeCommand r) h o = record { edges = o .edges; paths = o .paths; shapes = o .shapes }
+command-byte p at g (TargetCommand t) h o = record { edges = o .edges; paths = o .paths; shapes = o .shapes }
+command-byte p at g End h o = record { edges = o .edges; paths = o .paths; shapes = o .shapes }
 
-one-byte-add : (c : Case) (command : Command) → oneByte command ≡ true → OneByteEach c → OneByteEach (add c command)
-unfolding oneByte add all
-one-byte-add c (Nodes n) h o = record { edges = o .edges; paths = o .paths; shapes = o .shapes }
-one-byte-add c (EdgeCommand e) h o = record { edges = rw (all-append, o .edges, h); paths = o .paths; shapes = o .shapes }
-one-byte-add c (PathCommand r) h o = record { edges = o .edges; paths = rw (all-append, o .paths, h); shapes = o .shapes }
-one-byte-add c (ShapeCommand r) h o = record { edges = o .edges; paths = o .paths; shapes = rw (all-append, o .shapes, h) }
-one-byte-add c (TargetCommand t) h o = record { edges = o .edges; paths = o .paths; shapes = o .shapes }
-one-byte-add c End h o = o
+entry-byte : (p : Progress) (part : List ℕ) (at g : ℕ) (e : Entry) → all part (λ b. ltb b 256) ≡ true → EntryShows p part g e → BytesSoFar p → BytesSoFar (pass p at g e)
+unfolding EntryShows pass all
+entry-byte p part at g (Shape x) b h o = record { edges = o .edges; paths = o .paths; shapes = rw (all-append, o .shapes, h .bytes b) }
+entry-byte p part at g (Other command) b h o = command-byte p at g command (h .bytes b) o
 
-one-byte-empty : OneByteEach emptyCase
-unfolding emptyCase all
-one-byte-empty = record { edges = refl; paths = refl; shapes = refl }
+start-bytes : BytesSoFar start
+unfolding start emptyCase all
+start-bytes = record { edges = refl; paths = refl; shapes = refl }
 
--- what each command that is read keeps holds at the end of a walk
-module _ (P : Progress → Type 0) (Q : Case → Type 0) (s : List ℕ)
-    (none : Q emptyCase)
-    (ends : (end : ℕ) (p : Progress) → P p → Q (finish s end p .case))
-    (more : (at : ℕ) (p : Progress) (o : Command-of (stepAt (p .last) (p .case) (drop at s))) → P p → P (pass p at (o .taken .group) (o .command)))
-  where
-    walk-keeps : (fuel at : ℕ) (p : Progress) → P p → Q (walk fuel s at p .case)
-    unfolding walk stepped refused
-    walk-keeps zero at p k = none
-    walk-keeps (suc fuel) at p k =
-        ⊎-elim
-        (λ (e : ltb at (length s) ≡ true). rw (e, walk)
-        (⊎-elim
-        (λ o. rw (o .1) none)
-        (λ o. rw (o .is)
-        (⊎-elim (λ f. rw f (ends (at + 1) p k)) (λ f. rw f (walk-keeps fuel (at + o .taken .width) _ (more at p o k))) (bool-cases (isEnd (o .command)))))
-        (step-cases (stepAt (p .last) (p .case) (drop at s)))))
-        (λ (e : ltb at (length s) ≡ false). rw (e, walk) none)
-        (bool-cases (ltb at (length s)))
+bytes-each : (p : Progress) → BytesSoFar p → OneByteEach (expanded p)
+unfolding expanded
+bytes-each p o = record { edges = o .edges; paths = o .paths; shapes = expansion-passes byte-blind (p .written) (o .shapes) }
 
 pub outcome-one-byte : (s : List ℕ) → all s (λ b. ltb b 256) ≡ true → OneByteEach (outcome s .case)
-unfolding outcome start finish pass
+unfolding outcome walked finish refused
 outcome-one-byte s h =
-    walk-keeps (λ p. OneByteEach (p .case)) OneByteEach s one-byte-empty
-    (λ end p k. ⊎-elim (λ e. rw e k) (λ e. rw e one-byte-empty) (bool-cases (eqb (afterEnd s end p .number) 0)))
-    (λ at p o k.
-    let is = step-shows (p .last) (p .case) (drop at s) (o .command) (o .row) (o .taken) (o .is) .command-is in
-    one-byte-add (p .case) (o .command) (rw is (command-one-byte s at h)) k)
-    (suc (length s)) 0 start one-byte-empty
+    walk-keeps BytesSoFar (λ w. OneByteEach (expanded (w .read))) s
+    (λ n at k. bytes-each start start-bytes)
+    (λ end p k. by-test (eqb (afterEnd s end p .number) 0) (λ e. rw e (bytes-each p k)) (λ e. rw e (bytes-each start start-bytes)))
+    (λ at p e taken k room o. entry-byte p (drop at s) at (taken .group) e (all-drop s at (λ b. ltb b 256) h) (k .entry) o)
+    (suc (length s)) 0 start start-bytes
 
 -- ---- The sound cases that keep the limits and can be written in bytes are exactly those that reading gives
 pub sound-exactly : (c : Case) → (Sound c × Limited c × OneByteEach c) ↔ Readable c

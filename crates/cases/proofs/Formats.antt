@@ -10,7 +10,7 @@ use Rattle.fixpoint.proofs.Lists.{bool-cases}
 use Rattle.cases.specs.declared.command.Row.{Row}
 use Rattle.cases.specs.declared.format.Operands.{Operands}
 use Rattle.cases.specs.declared.format.Operands.the-variants.{Complete, Cut}
-use Rattle.cases.specs.Format.{complete, operandsOf, rowOf}
+use Rattle.cases.specs.Format.{widthOf, complete, operandsOf, operandsBy, rowOf}
 
 pub failed : {test answer : Bool} → answer ≡ test → not answer ≡ true → test ≡ false
 failed {test} {answer} e h = sym e ∙ not-true answer h
@@ -20,9 +20,9 @@ passed {test} {answer} e h = sym e ∙ not-false answer h
 
 module _ {answer : Operands} (s : List ℕ) (read : answer ≡ operandsOf s) where
   pub cut : answer ≡ Cut → complete s ≡ false
-  unfolding operandsOf
+  unfolding operandsBy complete widthOf rowOf
   cut h = ⊎-elim (λ e. cc) (λ e. e) (bool-cases (complete s))
 
   pub completed : {row : Row} → answer ≡ Complete row → (complete s ≡ true) × (rowOf s ≡ row)
-  unfolding operandsOf
+  unfolding operandsBy complete widthOf rowOf
   completed h = ⊎-elim (λ e. (e, cc)) (λ e. (cc, cc)) (bool-cases (complete s))

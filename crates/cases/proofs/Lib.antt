@@ -4,5 +4,7 @@ pub mod Steps
 pub mod Sound
 pub mod RefusalNumbers
 pub mod InRows
+pub mod Expansion
+pub mod Opening
 pub mod Operands
 pub mod Encoding

@@ -1,79 +1,274 @@
--- What a command that is not refused shows, and the cases of an answer. Assumes nothing.
-use Prim.Native.Nat.{ℕ, _≤_}
+-- What a command that is found shows, and that what every command keeps holds at the end of the walk. Assumes nothing.
+use Prim.Native.Nat.{ℕ, zero, suc, _+_, _≤_, _<_}
+use native.Mathlib.Omega.{arith}
 use mathlib.Core.Path.{_≡_, refl}
-use mathlib.Core.Logic.{_⊎_, inl, inr, ⊎-elim}
-use mathlib.Core.Bool.{Bool, true, false}
+use mathlib.Core.Bool.{Bool, true, false, cond}
 use mathlib.Core.List.{List}
-use lib.ListN.{length, getD}
+use lib.ListN.{length, getD, drop}
 use lib.Dec.{eqb, ltb}
-use borrow.Author.Tests.{leb-true}
-use Rattle.fixpoint.proofs.Lists.{bool-cases}
+use borrow.Author.Tests.{leb-true, eqb-true}
+use Rattle.fixpoint.specs.Lists.{all}
+use Rattle.fixpoint.proofs.Lists.{tests, by-test}
 use Rattle.cases.specs.declared.answers.Step.{Step}
 use Rattle.cases.specs.declared.answers.Step.the-variants.{Is, Refused}
 use Rattle.cases.specs.declared.answers.Taken.{Taken}
 use Rattle.cases.specs.declared.command.Command.{Command}
+use Rattle.cases.specs.declared.command.Command.the-variants.{Nodes, End}
+use Rattle.cases.specs.declared.command.Command.the-variants.{Edge as EdgeCommand, Path as PathCommand, Shape as ShapeCommand, Target as TargetCommand}
 use Rattle.cases.specs.declared.command.Row.{Row}
-use Rattle.cases.specs.Case.{Case, countsOf}
-use Rattle.cases.specs.Format.{groupOf, widthOf, takenOf, rowOf, complete, operandsOf, missing, commandAt}
+use Rattle.cases.specs.declared.counts.Counts.{Counts}
+use Rattle.cases.specs.declared.format.Format.{Format}
+use Rattle.cases.specs.declared.format.Operands.{Operands}
+use Rattle.cases.specs.declared.format.Operands.the-variants.{Complete, Cut}
+use Rattle.cases.specs.Counts.{shapeLimit}
+use Rattle.cases.specs.Encoding.{pathByte, shapeByte}
 use Rattle.cases.specs.Faults.{inOrder, withinLimit, nodesKnown, pathsEarlier, leastPositive}
-use Rattle.cases.specs.Reading.{unless, judged, stepAt}
+use Rattle.cases.specs.Format.{formatOf, groupOf, widthOf, takenOf, numberAt, rowOf, complete, operandsOf, operandsBy, missing}
+use Rattle.cases.specs.Format.{edgeOf, pathRuleOf, shapeRuleOf, targetOf, commandOf, commandAt}
+use Rattle.cases.specs.Parts.{Part, PartRead, PartFault, PartIs, partAt, depthLimit}
+use Rattle.cases.specs.Reading.{unless, judged, stepAt, Progress, countsSoFar, Entry, Shape, Other, pass, Found, Fault, Good}
+use Rattle.cases.specs.Reading.{entryOf, plainFound, partFound, nestedFound, roomFor, roomy, foundAt, Walked, refused, finish, isEndEntry, stepped, walk, isReadingNumber}
+use Rattle.cases.proofs.Expansion.{ruled}
+use Rattle.cases.proofs.Opening.{shapeSound, bytes-at, ReadShows, part-shows}
 
--- operands are missing where the command isn't whole
-missing-none : (s : List ℕ) → eqb (missing (operandsOf s)) 0 ≡ complete s
-unfolding operandsOf
-missing-none s = ⊎-elim (λ e. rw e) (λ e. rw e) (bool-cases (complete s))
+-- ---- What a command shows that is found
 
-pub unless-is : (ok : Bool) (n : ℕ) (rest : Step) {command : Command} {row : Row} {taken : Taken}
-    → unless ok n rest ≡ Is command row taken → (ok ≡ true) × (rest ≡ Is command row taken)
-unless-is true n rest h = (refl, h)
-unless-is false n rest h = (cc, cc)
+-- a command can be of the group, as far as the order is needed
+unfoldable pub ofGroup : ℕ → Command → Bool
+ofGroup g (Nodes n) = eqb g 1
+ofGroup g (EdgeCommand e) = true
+ofGroup g (PathCommand r) = eqb g 3
+ofGroup g (ShapeCommand r) = eqb g 4
+ofGroup g (TargetCommand t) = true
+ofGroup g End = true
 
-pub record Shown (last : ℕ) (c : Case) (part : List ℕ) (command : Command) (row : Row) (taken : Taken) : Type 0 where
+-- its operands fit their bytes, as far as no other test says so
+unfoldable pub oneByte : Command → Bool
+oneByte (Nodes n) = true
+oneByte (EdgeCommand e) = ltb (e .property .0) 256
+oneByte (PathCommand r) = pathByte r
+oneByte (ShapeCommand r) = shapeByte r
+oneByte (TargetCommand t) = true
+oneByte End = true
+
+-- 2 and 4 to 7 of a command
+pub record CommandShows (p : Progress) (part : List ℕ) (g : ℕ) (command : Command) : Type 0 where
+  pub grouped : ofGroup g command ≡ true
+  pub limit : withinLimit (countsSoFar p) command ≡ true
+  pub nodes : nodesKnown (countsSoFar p) command ≡ true
+  pub paths : pathsEarlier (countsSoFar p) command ≡ true
+  pub least : leastPositive command ≡ true
+  pub bytes : all part (λ b. ltb b 256) ≡ true → oneByte command ≡ true
+
+-- of a shape, as a part
+pub record ShapeShows (p : Progress) (part : List ℕ) (g : ℕ) (x : Part) : Type 0 where
+  pub grouped : g ≡ 4
+  pub limit : ltb (length (p .written)) shapeLimit ≡ true
+  pub sound : ruled (shapeSound (p .case .nodes) (length (p .case .paths))) x ≡ true
+  pub bytes : all part (λ b. ltb b 256) ≡ true → ruled shapeByte x ≡ true
+
+unfoldable pub EntryShows : Progress → List ℕ → ℕ → Entry → Type 0
+EntryShows p part g (Shape x) = ShapeShows p part g x
+EntryShows p part g (Other command) = CommandShows p part g command
+
+-- what is added, and what is taken of the input
+pub record Shows (p : Progress) (part : List ℕ) (e : Entry) (taken : Taken) : Type 0 where
+  pub ordered : inOrder (p .last) (taken .group) ≡ true
+  pub known : 0 < taken .group
+  pub some : 0 < taken .width
+  pub whole : taken .width ≤ length part
+  pub entry : EntryShows p part (taken .group) e
+
+unfoldable pub FoundShows : Progress → List ℕ → Found → Type 0
+FoundShows p part (Fault n) = isReadingNumber n ≡ true
+FoundShows p part (Good e taken) = Shows p part e taken
+
+-- ---- A command but 28
+
+-- what it is made of, and the tests that it passed
+pub record Shown (last : ℕ) (k : Counts) (part : List ℕ) (command : Command) (row : Row) (taken : Taken) : Type 0 where
   pub command-is : command ≡ commandAt part
   pub row-is : row ≡ rowOf part
   pub taken-is : taken ≡ takenOf (getD part 0 0)
   pub known : ltb 0 (groupOf (getD part 0 0)) ≡ true
   pub ordered : inOrder last (groupOf (getD part 0 0)) ≡ true
   pub whole : widthOf (getD part 0 0) ≤ length part
-  pub within : withinLimit (countsOf c) command ≡ true
-  pub nodes-known : nodesKnown (countsOf c) command ≡ true
-  pub paths-earlier : pathsEarlier (countsOf c) command ≡ true
+  pub within : withinLimit k command ≡ true
+  pub nodes-known : nodesKnown k command ≡ true
+  pub paths-earlier : pathsEarlier k command ≡ true
   pub least-positive : leastPositive command ≡ true
 
-pub step-shows : (last : ℕ) (c : Case) (part : List ℕ) (command : Command) (row : Row) (taken : Taken)
-    → stepAt last c part ≡ Is command row taken → Shown last c part command row taken
-unfolding stepAt judged complete
-step-shows last c part command row taken h =
-    let a = unless-is (ltb 0 (groupOf (getD part 0 0))) 1 _ h in
-    let b = unless-is (inOrder last (groupOf (getD part 0 0))) 2 _ (a .1) in
-    let w = unless-is (eqb (missing (operandsOf part)) 0) _ _ (b .1) in
-    let l = unless-is (withinLimit (countsOf c) (commandAt part)) 4 _ (w .1) in
-    let n = unless-is (nodesKnown (countsOf c) (commandAt part)) 5 _ (l .1) in
-    let p = unless-is (pathsEarlier (countsOf c) (commandAt part)) 6 _ (n .1) in
-    let q = unless-is (leastPositive (commandAt part)) 7 _ (p .1) in
-    let e : commandAt part ≡ command = cc (q .1) in
-    let r : rowOf part ≡ row = cc (q .1) in
-    let t : takenOf (getD part 0 0) ≡ taken = cc (q .1) in
-    rw (← e, ← r, ← t) (record {
-      command-is = refl;
-      row-is = refl;
-      taken-is = refl;
-      known = a .0;
-      ordered = b .0;
-      whole = leb-true _ _ (rw (missing-none part) at (w .0));
-      within = l .0;
-      nodes-known = n .0;
-      paths-earlier = p .0;
-      least-positive = q .0;
+unfoldable pub StepShows : ℕ → Counts → List ℕ → Step → Type 0
+StepShows last k part (Refused n) = isReadingNumber n ≡ true
+StepShows last k part (Is command row taken) = Shown last k part command row taken
+
+-- operands are missing where the command isn't whole
+missing-none : (s : List ℕ) → eqb (missing (operandsOf s)) 0 ≡ complete s
+unfolding operandsBy complete widthOf
+missing-none s = by-test (complete s) (λ e. rw e) (λ e. rw e)
+
+missing-number : (o : Operands) → isReadingNumber (missing o) ≡ true
+missing-number (Complete row) = refl
+missing-number Cut = refl
+
+module _ (last : ℕ) (k : Counts) (part : List ℕ) where
+  unless-shows : (ok : Bool) (n : ℕ) (rest : Step) → isReadingNumber n ≡ true → (ok ≡ true → StepShows last k part rest)
+      → StepShows last k part (unless ok n rest)
+  unfolding StepShows
+  unless-shows true n rest r f = f refl
+  unless-shows false n rest r f = r
+
+  pub step-shows : StepShows last k part (stepAt last k part)
+  unfolding stepAt judged complete StepShows
+  step-shows =
+      let g = groupOf (getD part 0 0) in
+      let command = commandAt part in
+      unless-shows (ltb 0 g) 1 _ refl
+      (λ known. unless-shows (inOrder last g) 2 _ refl
+      (λ ordered. unless-shows (eqb (missing (operandsOf part)) 0) (missing (operandsOf part)) _ (missing-number (operandsOf part))
+      (λ there. unless-shows (withinLimit k command) 4 _ refl
+      (λ within. unless-shows (nodesKnown k command) 5 _ refl
+      (λ nodes. unless-shows (pathsEarlier k command) 6 _ refl
+      (λ paths. unless-shows (leastPositive command) 7 _ refl
+      (λ least. record {
+        command-is = refl;
+        row-is = refl;
+        taken-is = refl;
+        known = known;
+        ordered = ordered;
+        whole = leb-true _ _ (rw (missing-none part) at there);
+        within = within;
+        nodes-known = nodes;
+        paths-earlier = paths;
+        least-positive = least;
+      })))))))
+
+-- the group picks the command
+commandOf-group : (g : ℕ) (r : Row) → ofGroup g (commandOf g r) ≡ true
+unfolding commandOf ofGroup
+commandOf-group g r =
+    choose 1 (Nodes (r .1)) _ (λ e. e)
+    (choose 2 (EdgeCommand (edgeOf r)) _ (λ e. refl)
+    (choose 3 (PathCommand (pathRuleOf r)) _ (λ e. e)
+    (choose 4 (ShapeCommand (shapeRuleOf r)) _ (λ e. e)
+    (choose 5 (TargetCommand (targetOf r)) End (λ e. refl) refl))))
+  where
+    choose : (n : ℕ) (c o : Command) → (eqb g n ≡ true → ofGroup g c ≡ true) → ofGroup g o ≡ true → ofGroup g (cond (eqb g n) c o) ≡ true
+    choose n c o f e = by-test (eqb g n) (λ h. rw h (f h)) (λ h. rw h e)
+
+-- so it is for the command byte b if its group and widths are f
+record OneByte (s : List ℕ) (b : ℕ) (f : Format) : Type 0 where
+  one : oneByte (commandOf (f .0) (b, numberAt s 1 (f .1), numberAt s (1 + f .1) (f .2), numberAt s (1 + f .1 + f .2) (f .3))) ≡ true
+
+module _ (s : List ℕ) (b : ℕ) where
+  choose-byte : (n : ℕ) (x y : Format) → OneByte s n x → OneByte s b y → OneByte s b (cond (eqb b n) x y)
+  choose-byte n x y h k = by-test (eqb b n) (λ e. rw e (rw (eqb-true b n e) h)) (λ e. rw e k)
+
+  -- choose goes through the bytes of the format; a property or a least number is the first operand of each
+  format-one-byte : ltb (getD s 1 0) 256 ≡ true → OneByte s b (formatOf b)
+  unfolding formatOf commandOf pathRuleOf shapeRuleOf numberAt oneByte
+  format-one-byte h = search choose-byte depth 64
+
+command-one-byte : (part : List ℕ) → all part (λ b. ltb b 256) ≡ true → oneByte (commandAt part) ≡ true
+unfolding commandAt rowOf
+command-one-byte part h = format-one-byte part (getD part 0 0) (bytes-at part 1 h) .one
+
+-- what was shown of a command is what is shown of what it adds
+entry-shows : (p : Progress) (part : List ℕ) (g : ℕ) (command : Command) → CommandShows p part g command → EntryShows p part g (entryOf command)
+unfolding EntryShows ofGroup oneByte countsSoFar ruled shapeSound
+entry-shows p part g (Nodes n) h = h
+entry-shows p part g (EdgeCommand e) h = h
+entry-shows p part g (PathCommand r) h = h
+entry-shows p part g (ShapeCommand r) h =
+    record { grouped = eqb-true g 4 (h .grouped); limit = h .limit; sound = rw (h .nodes, h .paths, h .least); bytes = h .bytes }
+entry-shows p part g (TargetCommand t) h = h
+entry-shows p part g End h = h
+
+plain-shows : (p : Progress) (part : List ℕ) (o : Step) → StepShows (p .last) (countsSoFar p) part o → FoundShows p part (plainFound o)
+unfolding StepShows FoundShows commandAt takenOf widthOf
+plain-shows p part (Refused n) h = h
+plain-shows p part (Is command row taken) h =
+    rw (h .taken-is) (record {
+      ordered = h .ordered;
+      known = omega (arith, tests, h .known);
+      some = omega arith;
+      whole = h .whole;
+      entry =
+          entry-shows p part (groupOf (getD part 0 0)) command
+          (record {
+            grouped = rw (h .command-is) (commandOf-group (groupOf (getD part 0 0)) (rowOf part));
+            limit = h .within;
+            nodes = h .nodes-known;
+            paths = h .paths-earlier;
+            least = h .least-positive;
+            bytes = λ b. rw (h .command-is) (command-one-byte part b);
+          });
     })
 
--- an answer is a refusal or a command
-pub record Command-of (o : Step) : Type 0 where
-  pub command : Command
-  pub row : Row
-  pub taken : Taken
-  pub is : o ≡ Is command row taken
+-- ---- A 28
 
-pub step-cases : (o : Step) → ((n : ℕ) × (o ≡ Refused n)) ⊎ Command-of o
-step-cases (Refused n) = inl (n, refl)
-step-cases (Is c r t) = inr (record { command = c; row = r; taken = t; is = refl })
+part-read-shows : (p : Progress) (part : List ℕ) (r : PartRead) → inOrder (p .last) 4 ≡ true → ltb (length (p .written)) shapeLimit ≡ true
+    → ReadShows (p .case .nodes) (length (p .case .paths)) part 1 r → FoundShows p part (partFound r)
+unfolding ReadShows FoundShows EntryShows
+part-read-shows p part (PartFault n) ordered limit h = h
+part-read-shows p part (PartIs x next) ordered limit h =
+    record {
+      ordered = ordered;
+      known = omega arith;
+      some = omega (arith, h .onward);
+      whole = h .within;
+      entry = record { grouped = refl; limit = limit; sound = h .sound; bytes = h .byte };
+    }
+
+nested-shows : (p : Progress) (part : List ℕ) → FoundShows p part (nestedFound p part)
+unfolding nestedFound FoundShows
+nested-shows p part =
+    let nodes = p .case .nodes in
+    let paths = length (p .case .paths) in
+    by-test (inOrder (p .last) 4)
+    (λ ordered. rw ordered
+    (by-test (ltb (length (p .written)) shapeLimit)
+    (λ limit. rw limit (part-read-shows p part (partAt depthLimit nodes paths part 1) ordered limit (part-shows nodes paths part depthLimit 1)))
+    (λ limit. rw limit refl)))
+    (λ ordered. rw ordered refl)
+
+-- ---- Any command, with 19
+
+unfoldable pub GoodShows : Progress → List ℕ → Found → Type 0
+GoodShows p part (Fault n) = isReadingNumber n ≡ true
+GoodShows p part (Good e taken) = Shows p part e taken × (roomFor p e ≡ true)
+
+roomy-shows : (p : Progress) (part : List ℕ) (f : Found) → FoundShows p part f → GoodShows p part (roomy p f)
+unfolding FoundShows GoodShows
+roomy-shows p part (Fault n) h = h
+roomy-shows p part (Good e taken) h = by-test (roomFor p e) (λ r. rw r (h, r)) (λ r. rw r refl)
+
+pub found-shows : (p : Progress) (part : List ℕ) → GoodShows p part (foundAt p part)
+unfolding foundAt
+found-shows p part =
+    let step = stepAt (p .last) (countsSoFar p) part in
+    by-test (eqb (getD part 0 0) 0x28)
+    (λ e. rw e (roomy-shows p part (nestedFound p part) (nested-shows p part)))
+    (λ e. rw e (roomy-shows p part (plainFound step) (plain-shows p part step (step-shows (p .last) (countsSoFar p) part))))
+
+-- ---- The walk: what every command keeps holds at its end
+
+module _ (P : Progress → Type 0) (Q : Walked → Type 0) (s : List ℕ)
+    (refuses : (n at : ℕ) → isReadingNumber n ≡ true → Q (refused n at))
+    (ends : (end : ℕ) (p : Progress) → P p → Q (finish s end p))
+    (more : (at : ℕ) (p : Progress) (e : Entry) (taken : Taken) → Shows p (drop at s) e taken → roomFor p e ≡ true → P p → P (pass p at (taken .group) e))
+  where
+    step-keeps : (onward : ℕ → Progress → Walked) → ((at : ℕ) (p : Progress) → P p → Q (onward at p)) → (at : ℕ) (p : Progress) (f : Found)
+        → GoodShows p (drop at s) f → P p → Q (stepped onward s at p f)
+    unfolding stepped GoodShows
+    step-keeps onward ih at p (Fault n) h k = refuses n at h
+    step-keeps onward ih at p (Good e taken) h k =
+        by-test (isEndEntry e) (λ i. rw i (ends (at + 1) p k)) (λ i. rw i (ih (at + taken .width) _ (more at p e taken (h .0) (h .1) k)))
+
+    pub walk-keeps : (fuel at : ℕ) (p : Progress) → P p → Q (walk fuel s at p)
+    unfolding walk
+    walk-keeps zero at p k = refuses 3 at refl
+    walk-keeps (suc fuel) at p k =
+        by-test (ltb at (length s))
+        (λ e. rw (e, walk) (step-keeps (walk fuel s) (walk-keeps fuel) at p (foundAt p (drop at s)) (found-shows p (drop at s)) k))
+        (λ e. rw (e, walk) (refuses 3 at refl))

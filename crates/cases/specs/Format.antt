@@ -21,7 +21,7 @@ use Rattle.cases.specs.declared.format.Operands.{Operands}
 use Rattle.cases.specs.declared.format.Operands.the-variants.{Complete, Cut}
 
 -- a command byte's group, in the order in which the groups stand: 1 nodes, 2 edges, 3 paths, 4 shapes, 5 targets, 6 end,
--- 0 for an unknown byte; then the widths of its operands in bytes, a u8 being 1 and a u16 2
+-- 0 for an unknown byte, and for 28, whose parts have a format of their own; then the widths of its operands in bytes, a u8 being 1 and a u16 2
 unfoldable pub formatOf : ℕ → Format
 formatOf b =
     cond (eqb b 0x01) (1, 2, 0, 0)
@@ -47,11 +47,17 @@ abbrev pub groupOf : ℕ → ℕ
 groupOf b = formatOf b .0
 
 -- the bytes that a command takes, its own and its operands'
+abbrev pub widthBy : Format → ℕ
+widthBy f = 1 + f .1 + f .2 + f .3
+
 unfoldable pub widthOf : ℕ → ℕ
-widthOf b = 1 + formatOf b .1 + formatOf b .2 + formatOf b .3
+widthOf b = widthBy (formatOf b)
+
+abbrev pub takenBy : Format → Taken
+takenBy f = record { group = f .0; width = widthBy f }
 
 unfoldable pub takenOf : ℕ → Taken
-takenOf b = record { group = groupOf b; width = widthOf b }
+takenOf b = takenBy (formatOf b)
 
 -- an operand: no byte, one byte, or two bytes, low byte first
 unfoldable pub numberAt : List ℕ → ℕ → ℕ → ℕ
@@ -60,22 +66,23 @@ numberAt s at width =
     (cond (eqb width 1) (getD s at 0)
     (getD s at 0 + 256 * getD s (at + 1) 0))
 
--- the command byte and the operands of the command that a part of the input starts with
-unfoldable pub rowOf : List ℕ → Row
-rowOf s = (
-  getD s 0 0,
-  numberAt s 1 (formatOf (getD s 0 0) .1),
-  numberAt s (1 + formatOf (getD s 0 0) .1) (formatOf (getD s 0 0) .2),
-  numberAt s (1 + formatOf (getD s 0 0) .1 + formatOf (getD s 0 0) .2) (formatOf (getD s 0 0) .3),
-)
+-- the byte that a part of the input starts with and the operands behind it, of these widths
+abbrev pub rowBy : Format → List ℕ → Row
+rowBy f s = (getD s 0 0, numberAt s 1 (f .1), numberAt s (1 + f .1) (f .2), numberAt s (1 + f .1 + f .2) (f .3))
 
--- the command is whole: the input has all its bytes
+-- what the operand reader answers: the row, if the input has all its bytes
+unfoldable pub operandsBy : Format → List ℕ → Operands
+operandsBy f s = cond (leb (widthBy f) (length s)) (Complete (rowBy f s)) Cut
+
+-- the same for the command that a part of the input starts with
+unfoldable pub rowOf : List ℕ → Row
+rowOf s = rowBy (formatOf (getD s 0 0)) s
+
 unfoldable pub complete : List ℕ → Bool
 complete s = leb (widthOf (getD s 0 0)) (length s)
 
--- what the operand reader answers
-unfoldable pub operandsOf : List ℕ → Operands
-operandsOf s = cond (complete s) (Complete (rowOf s)) Cut
+abbrev pub operandsOf : List ℕ → Operands
+operandsOf s = operandsBy (formatOf (getD s 0 0)) s
 
 -- the number of each of its answers: 3 where the input ends before the operands are complete
 abbrev pub missing : Operands → ℕ

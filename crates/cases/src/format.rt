@@ -4,7 +4,8 @@ use crate::command::Row;
 ghost use mathlib.Core.Path.{_≡_};
 ghost use Prim.Native.Nat.{_+_, _≤_, _<_};
 ghost use lib.ListN.{length};
-ghost use Rattle.cases.specs.Format.{formatOf, takenOf, numberAt, operandsOf, missing};
+ghost use Rattle.cases.specs.Format.{formatOf, takenBy, numberAt, operandsBy, missing};
+ghost use Rattle.cases.specs.Parts.{partFormatOf};
 
 // A command byte's group, 0 for an unknown byte, and the widths of its operands in bytes.
 pub struct Format(pub usize, pub u8, pub u8, pub u8);
@@ -34,15 +35,39 @@ pub fn format_of(code: u8) -> Format
     }
 }
 
-// What a command takes: its byte and its operands.
-pub fn taken_of(code: u8) -> Taken
-    ensures { λ r. ⌜ r ≡ takenOf code ⌝ }
+// A part byte's kind, 0 for a byte that opens no part, and the widths of the operands that stand before its inner parts.
+pub fn part_format_of(code: u8) -> Format
+    ensures { λ r. ⌜ r ≡ partFormatOf code ⌝ }
 {
-    let f = format_of(code);
+    match code {
+        0x20 => Format(1, 0, 0, 0),
+        0x21 => Format(1, 2, 0, 0),
+        0x22 => Format(3, 0, 0, 0),
+        0x23 => Format(3, 0, 0, 0),
+        0x24 => Format(2, 0, 0, 0),
+        0x25 => Format(1, 1, 1, 0),
+        0x26 => Format(2, 1, 0, 0),
+        0x27 => Format(2, 1, 1, 0),
+        0x29 => Format(4, 1, 0, 0),
+        0x2a => Format(5, 1, 1, 0),
+        _ => Format(0, 0, 0, 0),
+    }
+}
+
+// What a command of this format takes: its byte and its operands.
+pub fn taken_by(f: Format) -> Taken
+    ensures { λ r. ⌜ r ≡ takenBy f ⌝ }
+{
     Taken {
         group: f.0,
         width: 1 + f.1 as usize + f.2 as usize + f.3 as usize,
     }
+}
+
+fn wide(byte: u8) -> u16
+    ensures { λ r. ⌜ r ≡ byte ⌝ }
+{
+    byte as u16
 }
 
 // The number of `width` bytes at `at`, low byte first.
@@ -76,13 +101,11 @@ pub fn missing_number(operands: Operands) -> usize
     }
 }
 
-// Reads the operands of the command that `part` starts with.
-pub fn read_operands(part: &[u8]) -> Operands
+// Reads the operands that stand behind the byte that `part` starts with, of the widths that the format says.
+pub fn read_operands(part: &[u8], f: Format) -> Operands
     requires { ⌜ 0 < length (now part) ⌝ }
-    ensures { λ r. ⌜ r ≡ operandsOf (now (part .entry)) ⌝ }
+    ensures { λ r. ⌜ r ≡ operandsBy f (now (part .entry)) ⌝ }
 {
-    let code = part[0];
-    let f = format_of(code);
     let second = 1 + f.1 as usize;
     let third = second + f.2 as usize;
     let end = third + f.3 as usize;
@@ -92,5 +115,5 @@ pub fn read_operands(part: &[u8]) -> Operands
     let x = number_at(part, 1, f.1);
     let y = number_at(part, second, f.2);
     let z = number_at(part, third, f.3);
-    Operands::Complete(Row(code as u16, x, y, z))
+    Operands::Complete(Row(wide(part[0]), x, y, z))
 }

@@ -5,6 +5,7 @@ pub mod command;
 pub mod counts;
 pub mod format;
 pub mod numbers;
+pub mod parts;
 pub mod paths;
 pub mod references;
 pub mod rows;

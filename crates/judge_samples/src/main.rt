@@ -86,6 +86,14 @@ fn solve_unlinked() {
     );
 }
 
+// A rule inside rules: not not top, and at most 0 neighbours that are node 1. Seven shapes, five of them fresh.
+fn solve_nested() {
+    solve_small(
+        b"rules inside rules",
+        b"\x01\x02\x00\x02\x00\x00\x00\x01\x00\x10\x00\x20\x28\x22\x24\x24\x29\x00\x2a\x00\x00\x21\x01\x00\x30\x01\x00\x00\x30\x01\x01\x00\xff",
+    );
+}
+
 // Each table one byte short, with the later ones short too.
 fn solve_short(ring: &[u8]) {
     let mut values = [0u8; 20];
@@ -160,6 +168,7 @@ fn main() {
     solve_ring(ring);
     solve_others(clash);
     solve_unlinked();
+    solve_nested();
     solve_short(ring);
     check_proposals(ring, clash);
     check_unfit(clash);

@@ -1,5 +1,6 @@
--- The laws of reading: storing commands in the table of rows, noting the shapes that they name, the walk over the input.
+-- The laws of reading: storing commands in the table of rows, noting the shapes that they name, what is found, the walk over the input.
 pub mod Stores
 pub mod Noting
-pub mod Walking
 pub mod Judging
+pub mod Findings
+pub mod Walking

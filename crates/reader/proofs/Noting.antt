@@ -2,13 +2,12 @@
 use Prim.Native.Nat.{ℕ, _+_, _*_, _≤_, _<_}
 use native.Mathlib.Numerals.{add-one}
 use native.Mathlib.Omega.{arith}
-use mathlib.Core.Path.{_≡_, refl, sym, ap, _∙_}
-use mathlib.Core.Logic.{inl}
-use mathlib.Core.List.{List, [], _∷_, append-assoc, append-nil}
+use mathlib.Core.Path.{_≡_, ap, _∙_}
+use mathlib.Core.List.{List, [], _∷_}
 use lib.ListN.{length, getD, drop, drop-of-length-le}
 use lib.Seq.{drop-cons}
 use borrow.Author.Tests.{lt-ltb, le-ltb}
-use Rattle.fixpoint.proofs.Lists.{length-made, getD-made, made-more}
+use Rattle.fixpoint.proofs.Lists.{length-made, getD-made}
 use Rattle.cases.specs.declared.command.Command.{Command}
 use Rattle.cases.specs.declared.command.Command.the-variants.{Shape as ShapeCommand, Target as TargetCommand}
 use Rattle.cases.specs.declared.command.ShapeRule.{ShapeRule}
@@ -17,35 +16,10 @@ use Rattle.cases.specs.declared.numbers.Shape.{Shape}
 use Rattle.cases.specs.declared.references.References.{References}
 use Rattle.cases.specs.declared.references.References.the-variants.{No, One, Two}
 use Rattle.cases.specs.Case.{references}
-use Rattle.cases.specs.Reading.{Named, namedAt, noRefusal, shapesNamed, unknownShape}
+use Rattle.cases.specs.Reading.{Note, noRefusal, shapesNamed, unknownShape}
 use Rattle.cases.specs.References.{listed}
-use Rattle.reader.specs.Storing.{namedIn, NoteRoom, Noted}
-use Rattle.reader.proofs.Stores.{two, length-two, two-other, two-first, two-second}
-
--- What noting no shape, one, and two leaves
-pub noted-none : {place n : ℕ} {t : List ℕ} → Noted [] place n t n t
-unfolding namedAt
-noted-none {n = n} {t = t} = record { counted = omega arith; noted = sym (append-nil (namedIn t n)); long = refl }
-
-pub noted-one : {place n shape : ℕ} {t : List ℕ} → 2 * n + 2 ≤ length t → Noted (shape ∷ []) place n t (n + 1) (two t (2 * n) shape place)
-unfolding namedIn namedAt
-noted-one {place} {n} {shape} {t} fits = record {
-  counted = refl;
-  noted =
-      made-more _ _ n _
-      (λ i h. rw (two-other t (2 * n) shape place (2 * i) (inl (omega arith)), two-other t (2 * n) shape place (2 * i + 1) (inl (omega arith))))
-      (rw (two-first t (2 * n) shape place fits, two-second t (2 * n) shape place fits));
-  long = length-two t (2 * n) shape place;
-}
-
-pub noted-then : {place n n₁ n₂ a b : ℕ} {t t₁ t₂ : List ℕ} → Noted (a ∷ []) place n t n₁ t₁ → Noted (b ∷ []) place n₁ t₁ n₂ t₂
-    → Noted (a ∷ b ∷ []) place n t n₂ t₂
-unfolding namedAt
-noted-then {n = n} {t = t} u v = record {
-  counted = omega (arith, u .counted, v .counted);
-  noted = v .noted ∙ rw (u .noted) (append-assoc (namedIn t n) _ _);
-  long = v .long ∙ u .long;
-}
+use Rattle.parts.specs.Tables.{namedIn, NoteRoom, Noted}
+use Rattle.parts.proofs.Notes.{noted-none, noted-then}
 
 -- By the references of a rule, which are so many
 module _ {r : References} {n : ℕ} {t : List ℕ} where
@@ -94,11 +68,11 @@ pub noted-of-other : {command other : Command} {place n : ℕ} {t : List ℕ} �
 noted-of-other e q = rw (e, q) noted-none
 
 -- Refusal 9, from the i-th noted shape on
-entry : List ℕ → ℕ → Named
+entry : List ℕ → ℕ → Note
 entry t i = record { shape = getD t (2 * i) 0; place = getD t (2 * i + 1) 0 }
 
 module _ (t : List ℕ) (n : ℕ) where
-  length-named : length (namedIn t n) ≡ n
+  pub length-named : length (namedIn t n) ≡ n
   unfolding namedIn
   length-named = length-made _ n
 

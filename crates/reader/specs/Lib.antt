@@ -1,3 +1,4 @@
 -- What the functions that read need and leave.
 pub mod Storing
+pub mod Finding
 pub mod Parsing

@@ -1,9 +1,8 @@
-// What is at fault with a command, judged by what has been read before it: refusals 1 to 7 in their order.
+// What is at fault with a command but 28, judged by what has been read before it: refusals 1 to 7 in their order.
 use cases::answers::Step;
 use cases::answers::Taken;
 use cases::command::Command;
 use cases::command::Row;
-use cases::command::ShapeRule;
 use cases::command::command_of;
 use cases::counts::Counts;
 use cases::counts::EDGE_LIMIT;
@@ -12,26 +11,26 @@ use cases::counts::PATH_LIMIT;
 use cases::counts::SHAPE_LIMIT;
 use cases::counts::TARGET_LIMIT;
 use cases::format::Operands;
+use cases::format::format_of;
 use cases::format::missing_number;
 use cases::format::read_operands;
-use cases::format::taken_of;
+use cases::format::taken_by;
 use cases::numbers::Node;
-use cases::paths::Paths;
 use cases::paths::paths_of_path;
-use cases::paths::paths_of_shape;
+use parts::faults::all_earlier;
+use parts::faults::shape_least_positive;
+use parts::faults::shape_nodes_known;
+use parts::faults::shape_paths_earlier;
 ghost use mathlib.Core.Path.{_≡_};
 ghost use Prim.Native.Nat.{_<_};
 ghost use mathlib.Core.Bool.{_&&_};
 ghost use lib.Dec.{ltb};
 ghost use lib.ListN.{length};
-ghost use Rattle.cases.specs.Case.{Case, countsOf};
-ghost use Rattle.fixpoint.specs.Lists.{all};
-ghost use Rattle.cases.specs.References.{listedPaths};
-ghost use Rattle.cases.specs.Faults.{inOrder, withinLimit, nodesKnown, shapeNodesKnown, pathsEarlier, leastPositive, shapeLeastPositive};
+ghost use Rattle.cases.specs.Faults.{inOrder, withinLimit, nodesKnown, pathsEarlier, leastPositive};
 ghost use Rattle.cases.specs.Reading.{judged, stepAt};
 
 // Whether a command of this group may come after one of the group `last`, 0 at the start: one 01 first, then the groups in their order.
-fn in_order(last: usize, group: usize) -> bool
+pub fn in_order(last: usize, group: usize) -> bool
     ensures { λ r. ⌜ r ≡ inOrder last group ⌝ }
 {
     if last == 0 {
@@ -63,21 +62,6 @@ fn both_known(a: Node, b: Node, nodes: usize) -> bool
     a.0 < nodes && b.0 < nodes
 }
 
-fn shape_nodes_known(nodes: usize, rule: ShapeRule) -> bool
-    ensures { λ r. ⌜ r ≡ shapeNodesKnown nodes rule ⌝ }
-{
-    match rule {
-        ShapeRule::Top => true,
-        ShapeRule::Node(a) => a.0 < nodes,
-        ShapeRule::And(_, _) => true,
-        ShapeRule::Or(_, _) => true,
-        ShapeRule::Not(_) => true,
-        ShapeRule::Same(_, _) => true,
-        ShapeRule::All(_, _) => true,
-        ShapeRule::AtLeast(_, _, _) => true,
-    }
-}
-
 fn nodes_known(counts: Counts, command: Command) -> bool
     ensures { λ r. ⌜ r ≡ nodesKnown counts command ⌝ }
 {
@@ -91,17 +75,6 @@ fn nodes_known(counts: Counts, command: Command) -> bool
     }
 }
 
-// Whether each of the paths stands earlier.
-fn all_earlier(named: Paths, paths: usize) -> bool
-    ensures { λ r. ⌜ r ≡ all (listedPaths named) (λ p. ltb p paths) ⌝ }
-{
-    match named {
-        Paths::No => true,
-        Paths::One(p) => p.0 < paths,
-        Paths::Two(p, q) => p.0 < paths && q.0 < paths,
-    }
-}
-
 fn paths_earlier(counts: Counts, command: Command) -> bool
     ensures { λ r. ⌜ r ≡ pathsEarlier counts command ⌝ }
 {
@@ -109,24 +82,9 @@ fn paths_earlier(counts: Counts, command: Command) -> bool
         Command::Nodes(_) => true,
         Command::Edge(_) => true,
         Command::Path(rule) => all_earlier(paths_of_path(rule), counts.paths),
-        Command::Shape(rule) => all_earlier(paths_of_shape(rule), counts.paths),
+        Command::Shape(rule) => shape_paths_earlier(counts.paths, rule),
         Command::Target(_) => true,
         Command::End => true,
-    }
-}
-
-fn shape_least_positive(rule: ShapeRule) -> bool
-    ensures { λ r. ⌜ r ≡ shapeLeastPositive rule ⌝ }
-{
-    match rule {
-        ShapeRule::Top => true,
-        ShapeRule::Node(_) => true,
-        ShapeRule::And(_, _) => true,
-        ShapeRule::Or(_, _) => true,
-        ShapeRule::Not(_) => true,
-        ShapeRule::Same(_, _) => true,
-        ShapeRule::All(_, _) => true,
-        ShapeRule::AtLeast(n, _, _) => 1 <= n,
     }
 }
 
@@ -145,7 +103,7 @@ fn least_positive(command: Command) -> bool
 
 // Judges a command that is there whole: refusals 4 to 7.
 fn judge(counts: Counts, command: Command, row: Row, taken: Taken) -> Step
-    ensures { λ r. ⌜ ((c : Case) → countsOf c ≡ counts → r ≡ judged c command row taken) ⌝ }
+    ensures { λ r. ⌜ r ≡ judged counts command row taken ⌝ }
 {
     if !within_limit(counts, command) {
         return Step::Refused(4);
@@ -165,9 +123,10 @@ fn judge(counts: Counts, command: Command, row: Row, taken: Taken) -> Step
 // Reads and judges the command that `part` starts with, after one of the group `last`.
 pub fn next(part: &[u8], last: usize, counts: Counts) -> Step
     requires { ⌜ 0 < length (now part) ⌝ }
-    ensures { λ r. ⌜ ((c : Case) → countsOf c ≡ counts → r ≡ stepAt last c (now (part .entry))) ⌝ }
+    ensures { λ r. ⌜ r ≡ stepAt last counts (now (part .entry)) ⌝ }
 {
-    let taken = taken_of(part[0]);
+    let format = format_of(part[0]);
+    let taken = taken_by(format);
     let group = taken.group;
     if group == 0 {
         return Step::Refused(1);
@@ -175,7 +134,7 @@ pub fn next(part: &[u8], last: usize, counts: Counts) -> Step
     if !in_order(last, group) {
         return Step::Refused(2);
     }
-    let operands = read_operands(part);
+    let operands = read_operands(part, format);
     let Operands::Complete(row) = operands else {
         return Step::Refused(missing_number(operands));
     };

@@ -1,4 +1,5 @@
 // Reading: bytes to a case in a table of rows, or to a refusal with its number and place.
 pub mod faults;
+pub mod finding;
 pub mod reading;
 pub mod storing;

@@ -1,7 +1,8 @@
-// One walk over the input. Its invariant: the rows and counts hold the commands before `at`, none of them at fault, and what the whole
-// input comes to is what the walk comes to from there.
-use crate::faults::next;
-use crate::storing::note;
+// One walk over the input. Its invariant: the tables hold the commands before `at`, none of them at fault, and what the whole input comes to
+// is what the walk comes to from there.
+use crate::finding::Reached;
+use crate::finding::find;
+use crate::finding::nothing_reached;
 use crate::storing::store;
 use cases::answers::Parsed;
 use cases::answers::Reading;
@@ -10,15 +11,15 @@ use cases::answers::Step;
 use cases::answers::no_refusal;
 use cases::answers::number_of;
 use cases::command::Command;
-use cases::counts::Counts;
 use cases::counts::no_counts;
+use parts::expanding::expand;
 ghost use mathlib.Core.Path.{_≡_};
 ghost use Prim.Native.Nat.{_*_, _≤_};
 ghost use lib.ListN.{length};
 ghost use Rattle.cases.specs.Reading.{reading, isEnd, unknownShape};
 ghost use Rattle.cases.specs.Rows.{Full};
-ghost use Rattle.reader.specs.Storing.{namedIn};
-ghost use Rattle.reader.specs.Parsing.{ParsedAs, refusedAs, endedAs};
+ghost use Rattle.parts.specs.Tables.{namedIn};
+ghost use Rattle.reader.specs.Parsing.{ParsedAs, refusedAs, EndRoom, EndedAs};
 
 fn refused(number: usize, place: usize) -> Parsed
     ensures { λ r. ⌜ r ≡ refusedAs number place ⌝ }
@@ -47,22 +48,32 @@ fn unknown_shape(shapes: usize, named: &[usize], count: usize) -> Refusal
     no_refusal()
 }
 
-// Once the end command is read: refusals 8 and 9, or the case. `end` is the offset after the end command.
-fn ended(bytes: usize, end: usize, counts: Counts, named: &[usize], count: usize) -> Parsed
-    requires { ⌜ 2 * count ≤ length (now named) ⌝ }
-    ensures { λ r. ⌜ r ≡ endedAs bytes end counts (namedIn (now (named .entry)) count) ⌝ }
+// Once the end command is read: refusals 8 and 9, or the case, whose fresh shapes now get their numbers. `end` is the offset after the end
+// command.
+fn ended(
+    bytes: usize,
+    end: usize,
+    reached: Reached,
+    fresh: &[u16],
+    named: &[usize],
+    rows: &mut [u16],
+) -> Parsed
+    requires { ⌜ EndRoom reached (now fresh) (now named) (now rows) ⌝ }
+    ensures { λ r. ⌜ EndedAs bytes end reached (now (fresh .entry)) (now (named .entry)) (now (rows .entry)) r (now (rows .exit)) ⌝ }
 {
     if end < bytes {
         return refused(8, end);
     }
-    let unknown = unknown_shape(counts.shapes, named, count);
+    let counts = reached.counts;
+    let unknown = unknown_shape(counts.shapes, named, reached.noted);
     let number = unknown.number;
     if number != 0 {
         return refused(number, unknown.place);
     }
+    let expanded = expand(counts, fresh, reached.fresh, rows);
     Parsed {
         refusal: no_refusal(),
-        counts,
+        counts: expanded,
     }
 }
 
@@ -84,22 +95,26 @@ pub fn parse(case: &[u8], rows: &mut [u16]) -> Parsed
     requires { ⌜ Full (now rows) ⌝ }
     ensures { λ r. ⌜ ParsedAs (now (case .entry)) r (now (rows .exit)) ⌝ }
 {
-    let mut named = [0usize; 640];
+    let mut fresh = [0u16; 2168];
+    let mut named = [0usize; 1660];
     let mut at = 0;
-    let mut last = 0;
-    let mut count = 0;
-    let mut counts = no_counts();
+    let mut reached = nothing_reached();
     while at < case.len() {
-        let step = next(&case[at..], last, counts);
+        let finding = find(&case[at..], at, reached, &mut fresh, &mut named);
+        let step = finding.step;
         let Step::Is(command, row, taken) = step else {
             return refused(number_of(step), at);
         };
         if is_end(command) {
-            return ended(case.len(), at + 1, counts, &named, count);
+            return ended(case.len(), at + 1, reached, &fresh, &named, rows);
         }
-        counts = store(command, row, counts, rows);
-        count = note(command, at, &mut named, count);
-        last = taken.group;
+        let counts = store(command, row, reached.counts, rows);
+        reached = Reached {
+            last: taken.group,
+            counts,
+            fresh: finding.fresh,
+            noted: finding.noted,
+        };
         at += taken.width;
     }
     refused(3, at)

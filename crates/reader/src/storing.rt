@@ -2,35 +2,17 @@
 use cases::command::Command;
 use cases::command::Row;
 use cases::counts::Counts;
-use cases::numbers::Shape;
 use cases::references::References;
 use cases::references::references_of;
 use cases::rows::PATHS;
 use cases::rows::SHAPES;
 use cases::rows::TARGETS;
-ghost use mathlib.Core.Path.{_≡_};
-ghost use Prim.Native.Nat.{_+_, _*_, _≤_};
-ghost use lib.ListN.{length};
-ghost use mathlib.Core.List.{[], _∷_};
+use parts::tables::note_one;
+use parts::tables::put_row;
 ghost use Rattle.cases.specs.References.{listed};
 ghost use Rattle.cases.specs.Reading.{shapesNamed};
-ghost use Rattle.reader.specs.Storing.{putRow, Stored, StoreRoom, Noted, NoteRoom};
-
-// Makes row i this one.
-fn put_row(rows: &mut [u16], i: usize, row: Row)
-    requires { ⌜ 4 * i + 4 ≤ length (now rows) ⌝ }
-    ensures { λ _. ⌜ now (rows .exit) ≡ putRow (now (rows .entry)) i row ⌝ }
-{
-    let at = 4 * i;
-    let code = row.0;
-    let first = row.1;
-    let second = row.2;
-    let third = row.3;
-    rows[at] = code;
-    rows[at + 1] = first;
-    rows[at + 2] = second;
-    rows[at + 3] = third;
-}
+ghost use Rattle.parts.specs.Tables.{Noted, NoteRoom};
+ghost use Rattle.reader.specs.Storing.{Stored, StoreRoom};
 
 // Adds a command to the case in the rows, and answers the new counts.
 pub fn store(command: Command, row: Row, counts: Counts, rows: &mut [u16]) -> Counts
@@ -65,17 +47,6 @@ pub fn store(command: Command, row: Row, counts: Counts, rows: &mut [u16]) -> Co
         }
         Command::End => next,
     }
-}
-
-// Notes a shape that the command at `place` names, and answers how many are noted now.
-fn note_one(shape: Shape, place: usize, named: &mut [usize], count: usize) -> usize
-    requires { ⌜ 2 * count + 2 ≤ length (now named) ⌝ }
-    ensures { λ r. ⌜ Noted (shape .0 ∷ []) place count (now (named .entry)) r (now (named .exit)) ⌝ }
-{
-    let at = 2 * count;
-    named[at] = shape.0;
-    named[at + 1] = place;
-    count + 1
 }
 
 // Notes the shapes that a rule refers to.

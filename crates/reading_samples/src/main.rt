@@ -1,4 +1,4 @@
-// Reads the samples of document 01, each limit at it and one above, and each refusal 1 to 9, and prints what reading answers:
+// Reads the samples of document 01, each limit at it and one above, and each refusal 1 to 9, 18 and 19, and prints what reading answers:
 // the name, the refusal's number and place, and the counts of nodes, edges, paths, shapes and targets.
 mod build;
 
@@ -72,13 +72,14 @@ fn more_samples() {
 fn unknown_commands() {
     show(b"1 first byte", b"\x00");
     show(b"1 after paths", b"\x01\x00\x00\x15\xff");
-    show(b"1 before 2", b"\x28");
+    show(b"1 before 2", b"\x29");
 }
 
 // Refusal 2.
 fn disorder() {
     show(b"2 end alone", b"\xff");
     show(b"2 no nodes command", b"\x20\xff");
+    show(b"2 a 28 first", b"\x28");
     show(b"2 second nodes command", b"\x01\x01\x00\x01\x01\x00\xff");
     show(b"2 before 3", b"\x01\x01\x00\x01");
     show(
@@ -183,14 +184,91 @@ fn target_limit() {
     );
 }
 
-// The longest case that reads: 7,347 bytes, since the first path names no other.
+// Rules inside rules: a named shape, two inner parts, an at most; and the largest number of an at most.
+fn nested() {
+    show(b"28 named", b"\x01\x01\x00\x20\x28\x29\x00\xff");
+    show(b"28 and", b"\x01\x01\x00\x28\x22\x20\x20\xff");
+    show(
+        b"28 at most 0",
+        b"\x01\x01\x00\x10\x00\x28\x2a\x00\x00\x20\xff",
+    );
+    show(
+        b"28 at most 254",
+        b"\x01\x01\x00\x10\x00\x28\x2a\xfe\x00\x20\xff",
+    );
+    show(
+        b"28 at most 255",
+        b"\x01\x01\x00\x10\x00\x28\x2a\xff\x00\x20\xff",
+    );
+}
+
+// Refusals 1, 3, 5, 6 and 7 inside a 28, whose offset is the place.
+fn unfit_parts() {
+    show(b"1 part", b"\x01\x01\x00\x20\x28\x24\x28\x20\xff");
+    show(b"3 part", b"\x01\x01\x00\x20\x28\x22\x20");
+    show(b"5 part", b"\x01\x01\x00\x20\x28\x24\x21\x01\x00\xff");
+    show(b"6 part before 3", b"\x01\x01\x00\x20\x28\x26\x00");
+    show(
+        b"7 part",
+        b"\x01\x01\x00\x10\x00\x28\x24\x27\x00\x00\x20\xff",
+    );
+}
+
+// Refusal 9: 29s, operands and targets name written shapes only.
+fn unknown_names() {
+    show(b"9 29", b"\x01\x01\x00\x20\x28\x24\x29\x02\xff");
+    show(
+        b"9 29 of a fresh shape",
+        b"\x01\x01\x00\x20\x28\x22\x20\x29\x02\xff",
+    );
+    show(
+        b"9 target a fresh shape",
+        b"\x01\x01\x00\x28\x24\x20\x30\x01\x00\x00\xff",
+    );
+    show(
+        b"29 of a later shape",
+        b"\x01\x01\x00\x28\x24\x29\x01\x20\xff",
+    );
+}
+
+// Refusals 18 and 19: parts 8 and 9 deep, and 32 and 33 shapes, written and fresh.
+fn depth_limit() {
+    let node = b"\x01\x01\x00\x28";
+    show_many(b"8 deep", node, b"\x24", 7, b"\x20\xff");
+    show_many(b"9 deep", node, b"\x24", 8, b"\x20\xff");
+    show_many(b"18 before 3", node, b"\x24", 8, b"");
+    show_many(b"named, 9 deep", node, b"\x24", 8, b"\x29\x00\xff");
+}
+
+fn fresh_limit() {
+    let node = b"\x01\x01\x00";
+    let two = b"\x28\x24\x20";
+    show_many(b"32 written and fresh", node, two, 16, b"\xff");
+    show_many(b"33 written and fresh", node, two, 16, b"\x20\xff");
+    show_many(
+        b"33, a later part unknown",
+        node,
+        two,
+        15,
+        b"\x28\x22\x22\x20\x20\x00\xff",
+    );
+    show_many(
+        b"33rd written, nothing behind it",
+        node,
+        b"\x20",
+        32,
+        b"\x28",
+    );
+}
+
+// The longest case that reads: 7,411 bytes, since the first path names no other.
 fn longest() {
     let mut case = [0u8; 8192];
     let mut n = put(&mut case, 0, b"\x01\x80\x00");
     n = repeat(&mut case, n, b"\x02\x07\x7f\x00\x00\x00", 1024);
     n = put(&mut case, n, b"\x10\x07");
     n = repeat(&mut case, n, b"\x13\x00\x00", 15);
-    n = repeat(&mut case, n, b"\x27\x01\x0f\x1f", 32);
+    n = repeat(&mut case, n, b"\x28\x27\x01\x0f\x29\x1f", 32);
     n = repeat(&mut case, n, b"\x30\x1f\x7f\x00", 256);
     n = put(&mut case, n, b"\xff");
     number(n);
@@ -210,5 +288,10 @@ fn main() {
     path_limit();
     shape_limit();
     target_limit();
+    nested();
+    unfit_parts();
+    unknown_names();
+    depth_limit();
+    fresh_limit();
     longest();
 }

@@ -1,6 +1,7 @@
 -- What a case means, in the order of document 01: paths, values, levels and stability, solving, denial, and the four operations.
 pub mod Paths
 pub mod Values
+pub mod Nested
 pub mod Levels
 pub mod Stability
 pub mod Solving

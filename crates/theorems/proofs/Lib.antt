@@ -2,3 +2,4 @@
 pub mod Demands
 pub mod Ranking
 pub mod Samples
+pub mod Nested

@@ -1,8 +1,11 @@
--- The starred samples of document 01, "Samples": what each says, and one table of them. Assumes nothing.
+-- The starred samples of document 01, "Samples", and one of document 02, point 2: what each says, and one table of them. Assumes nothing.
 use Prim.Native.Nat.{ℕ, zero, suc, _<_}
 use mathlib.Core.Path.{_≡_}
 use mathlib.Core.List.{List, [], _∷_}
 use lib.ListN.{length, getD}
+use Rattle.cases.specs.declared.command.ShapeRule.{ShapeRule}
+use Rattle.cases.specs.declared.command.ShapeRule.the-variants.{Top, Node, And, Not, AtLeast}
+use Rattle.cases.specs.declared.numbers.Shape.{Shape}
 use Rattle.semantics.specs.declared.answers.Solution.{Solution}
 use Rattle.semantics.specs.declared.answers.Checked.{Checked}
 use Rattle.semantics.specs.declared.answers.Ranked.{Ranked}
@@ -19,6 +22,8 @@ pub data Sample : Type 0 where
   checks : List ℕ → (values levels : List ℕ) → Checked → Sample
   -- what ranking answers and leaves in the table
   ranks : List ℕ → Ranked → (strata : List ℕ) → Sample
+  -- the shapes of the case
+  expands : List ℕ → (shapes : List ShapeRule) → Sample
   -- the values of a stable assignment, which every stable assignment has
   onlyStable : List ℕ → (values : List ℕ) → Sample
 
@@ -54,6 +59,7 @@ Passes (solves s answer values levels verdicts) =
     ≡ (answer, values, twoBytes levels, verdicts)
 Passes (checks s values levels answer) = Operations.checkAnswer s values (twoBytes levels) ≡ answer
 Passes (ranks s answer strata) = ranked s (lent (length strata)) ≡ (answer, strata)
+Passes (expands s shapes) = Operations.caseOf s .shapes ≡ shapes
 Passes (onlyStable s values) = OnlyStable s values
 
 abbrev pub AllPass : List Sample → Type 0
@@ -106,7 +112,22 @@ noFillers =
     ∷ 0x20 ∷ 0x26 ∷ 0x00 ∷ 0x00
     ∷ 0xff ∷ []
 
+-- one edge, from node 0 to node 1, and a rule inside rules: shape 0 is top, shape 1 in one command "not not shape 0, and at most 0 neighbours
+-- that are node 1"
+unfoldable pub nested : List ℕ
+nested =
+    0x01 ∷ 0x02 ∷ 0x00
+    ∷ 0x02 ∷ 0x00 ∷ 0x00 ∷ 0x00 ∷ 0x01 ∷ 0x00
+    ∷ 0x10 ∷ 0x00
+    ∷ 0x20
+    ∷ 0x28 ∷ 0x22 ∷ 0x24 ∷ 0x24 ∷ 0x29 ∷ 0x00 ∷ 0x2a ∷ 0x00 ∷ 0x00 ∷ 0x21 ∷ 0x01 ∷ 0x00
+    ∷ 0x30 ∷ 0x01 ∷ 0x00 ∷ 0x00 ∷ 0x30 ∷ 0x01 ∷ 0x01 ∷ 0x00
+    ∷ 0xff ∷ []
+
 -- ---- The table
+
+abbrev shape : ℕ → Shape
+shape s = record { 0 = s }
 
 -- solved: rounds, valid and undetermined pairs, targets sure, open and impossible
 abbrev solution : (rounds valid undetermined sure opened impossible : ℕ) → Solution
@@ -117,7 +138,7 @@ solution r v u s o i =
 abbrev checked : (number place : ℕ) → Checked
 checked n p = record { number = n; place = p; undetermined = 0; valid = 0 }
 
--- in the document's order
+-- in the document's order; then the rule inside rules: both nots stay, and the at most makes a not and an at least
 unfoldable pub starred : List Sample
 starred =
     solves ring (solution 2 10 0 1 0 1)
@@ -137,4 +158,10 @@ starred =
     ∷ solves orItself (solution 1 0 0 0 0 0) (0 ∷ []) (0 ∷ []) []
     ∷ solves twoPaths (solution 2 3 0 0 0 0) (2 ∷ 2 ∷ 2 ∷ 0 ∷ 0 ∷ 0 ∷ []) (1 ∷ 1 ∷ 2 ∷ 0 ∷ 0 ∷ 0 ∷ []) []
     ∷ solves noFillers (solution 2 6 0 0 0 0) (2 ∷ 2 ∷ 2 ∷ 2 ∷ 2 ∷ 2 ∷ []) (1 ∷ 1 ∷ 1 ∷ 1 ∷ 1 ∷ 1 ∷ []) []
+    ∷ expands nested
+    (Top ∷ And (shape 2) (shape 4) ∷ Not (shape 3) ∷ Not (shape 0) ∷ Not (shape 5) ∷ AtLeast 1 (record { 0 = 0 }) (shape 6) ∷ Node (record { 0 = 1 }) ∷ [])
+    ∷ solves nested (solution 3 8 0 1 0 1)
+    (2 ∷ 2 ∷ 0 ∷ 2 ∷ 2 ∷ 2 ∷ 0 ∷ 0 ∷ 0 ∷ 2 ∷ 2 ∷ 0 ∷ 0 ∷ 2 ∷ [])
+    (1 ∷ 1 ∷ 0 ∷ 2 ∷ 1 ∷ 1 ∷ 0 ∷ 0 ∷ 0 ∷ 1 ∷ 2 ∷ 0 ∷ 0 ∷ 1 ∷ [])
+    (0 ∷ 2 ∷ [])
     ∷ []

@@ -7,21 +7,20 @@ use Rattle.reader.proofs.faults.judge.Tie as tie
 
 returns : tie.Need-returns
 unfolding judged
-returns c d e = rw (e, failed (c .before .within-limit .ensures) (c .if1 .taken))
+returns c = rw (failed (c .before .within-limit .ensures) (c .if1 .taken))
 
 returns-2 : tie.Need-returns-2
 unfolding judged
-returns-2 c d e =
+returns-2 c =
     let a = c .before .before in
-    rw (e, passed (a .before .within-limit .ensures) (a .if1 .left), failed (c .before .nodes-known .ensures) (c .if2 .taken))
+    rw (passed (a .before .within-limit .ensures) (a .if1 .left), failed (c .before .nodes-known .ensures) (c .if2 .taken))
 
 returns-3 : tie.Need-returns-3
 unfolding judged
-returns-3 c d e =
+returns-3 c =
     let b = c .before .before in
     let a = b .before .before in
     rw (
-      e,
       passed (a .before .within-limit .ensures) (a .if1 .left),
       passed (b .before .nodes-known .ensures) (b .if2 .left),
       failed (c .before .paths-earlier .ensures) (c .if3 .taken),
@@ -29,12 +28,11 @@ returns-3 c d e =
 
 returns-4 : tie.Need-returns-4
 unfolding judged
-returns-4 d o e =
+returns-4 d =
     let c = d .before .before in
     let b = c .before .before in
     let a = b .before .before in
     rw (
-      e,
       passed (a .before .within-limit .ensures) (a .if1 .left),
       passed (b .before .nodes-known .ensures) (b .if2 .left),
       passed (c .before .paths-earlier .ensures) (c .if3 .left),
@@ -43,12 +41,11 @@ returns-4 d o e =
 
 returns-5 : tie.Need-returns-5
 unfolding judged
-returns-5 d o e =
+returns-5 d =
     let c = d .before .before in
     let b = c .before .before in
     let a = b .before .before in
     rw (
-      e,
       passed (a .before .within-limit .ensures) (a .if1 .left),
       passed (b .before .nodes-known .ensures) (b .if2 .left),
       passed (c .before .paths-earlier .ensures) (c .if3 .left),

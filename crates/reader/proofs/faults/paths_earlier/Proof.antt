@@ -1,5 +1,5 @@
 -- `reader::faults::paths_earlier` meets its contract: each arm answers as the definition does for that variant. Assumes nothing.
-use Rattle.cases.specs.Faults.{pathPathsEarlier, shapePathsEarlier}
+use Rattle.cases.specs.Faults.{pathPathsEarlier}
 use borrow.Author.Needs.{needs}
 use Rattle.reader.proofs.faults.paths_earlier.Statement.{statement}
 use Rattle.reader.proofs.faults.paths_earlier.Tie as tie
@@ -9,8 +9,7 @@ unfolding pathPathsEarlier
 returns-3 c = rw (c .all-earlier .ensures, c .before .paths-of-path .ensures, c .before .before .before .command .given .1)
 
 returns-4 : tie.Need-returns-4
-unfolding shapePathsEarlier
-returns-4 c = rw (c .all-earlier2 .ensures, c .before .paths-of-shape .ensures, c .before .before .before .command2 .given .1)
+returns-4 c = rw (c .shape-paths-earlier .ensures, c .before .before .command2 .given .1)
 
 pub paths-earlier-spec : {M : Type 1} → statement M
 paths-earlier-spec =
@@ -22,7 +21,6 @@ paths-earlier-spec =
     (λ c κs. search needs)
     (λ c κs. search needs)
     (λ c. search needs)
-    (λ c κs. search needs)
     (λ c κs. search needs)
     (λ c. search needs)
     (λ c. search needs)

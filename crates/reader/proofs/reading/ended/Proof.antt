@@ -1,19 +1,20 @@
--- `reader::reading::ended` meets its contract: each branch is an arm of `endedAs`. Assumes nothing.
-use borrow.Author.Tests.{lt-ltb, le-ltb, eq-eqb, ne-eqb}
-use mathlib.Core.Path.{sym, _∙_}
-use Rattle.reader.proofs.Walking.{ended-after, ended-well, ended-unknown}
+-- `reader::reading::ended` meets its contract: 8, 9, or the expansion. Assumes nothing.
+use Rattle.reader.proofs.Walking.{ended-after, ended-unknown, ended-well}
 use borrow.Author.Needs.{needs}
 use Rattle.reader.proofs.reading.ended.Statement.{statement}
 use Rattle.reader.proofs.reading.ended.Tie as tie
 
 returns : tie.Need-returns
-returns c = search (ended-after, lt-ltb)
+returns c = search ended-after
 
 returns-2 : tie.Need-returns-2
-returns-2 c = c .refused2 .ensures ∙ rw (c .before .before .unknown-shape .ensures) (sym (ended-unknown _ _ _ _ (search le-ltb) (rw (c .before .before .unknown-shape .ensures) at (ne-eqb (c .before .before .unknown-shape .result .number) 0 (c .before .if2 .taken)))))
+returns-2 c = search ended-unknown
+
+same-length : tie.Need-same-length
+same-length c = c .before .before .before .expand .ensures .long
 
 returns-3 : tie.Need-returns-3
-returns-3 c = rw (c .no-refusal .ensures) (sym (ended-well _ _ _ _ (search le-ltb) (rw (c .before .before .unknown-shape .ensures) at (eq-eqb (c .before .before .unknown-shape .result .number) 0 (c .before .if2 .left)))))
+returns-3 c = search ended-well
 
 pub ended-spec : {M : Type 1} → statement M
 ended-spec =
@@ -25,4 +26,6 @@ ended-spec =
     (λ c κs. search needs)
     returns-2
     (λ c κs. search needs)
+    (λ c κs. search needs)
+    same-length
     returns-3)

@@ -4,7 +4,7 @@ use mathlib.Core.Path.{_≡_, refl, sym, _∙_}
 use native.Mathlib.Omega.{arith}
 use Prim.Native.Nat.{_≤_, _-_}
 use Rattle.reader.proofs.Noting.{unknown-here, unknown-later, unknown-none}
-use Rattle.reader.specs.Storing.{namedIn}
+use Rattle.parts.specs.Tables.{namedIn}
 use Rattle.cases.specs.Reading.{unknownShape}
 use borrow.Author.Needs.{needs}
 use Rattle.reader.proofs.reading.unknown_shape.Statement.{statement}
