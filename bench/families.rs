@@ -3,7 +3,10 @@
 use crate::generator::*;
 use std::time::{Duration, Instant};
 
-pub const FAMILIES: [&str; 9] = ["random", "positive chain", "denial chain", "both chains", "open chain", "open beside denials", "open after denials", "dense, star", "deep paths"];
+pub const FAMILIES: [&str; 14] = [
+    "random", "positive chain", "denial chain", "both chains", "open chain", "open beside denials", "open after denials", "dense, star", "deep paths",
+    "feeder, chain", "feeder, ring", "feeder, tree", "feeder, stars in stars", "feeder, star of a sequence",
+];
 
 /// How many cases a family has at one size.
 pub fn seeds(name: &str) -> u64 {
@@ -24,6 +27,11 @@ pub fn family(name: &str, n: usize, seed: u64) -> Vec<u8> {
         "open beside denials" => open_beside_denials(n, 17, 15),
         "open after denials" => open_after_denials(n, 17, 15),
         "dense, star" => dense_star(r, n),
+        "feeder, chain" => feeder(n, Feeder::Chain, STAR),
+        "feeder, ring" => feeder(n, Feeder::Ring, STAR),
+        "feeder, tree" => feeder(n, Feeder::Tree, STAR),
+        "feeder, stars in stars" => feeder(n, Feeder::Chain, STARS_IN_STARS),
+        "feeder, star of a sequence" => feeder(n, Feeder::Ring, STAR_OF_SEQUENCE),
         _ => deep_paths(r, n, &[0x13, 0x13, 0x14]),
     })
 }

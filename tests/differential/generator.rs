@@ -420,6 +420,39 @@ pub fn dense_star(r: &mut Random, n: usize) -> Commands {
     with_targets(commands, n, shapes)
 }
 
+/// How the fittings of a feeder follow each other: one after another, round, or each behind that of half its number.
+#[derive(Clone, Copy)]
+pub enum Feeder {
+    Chain,
+    Ring,
+    Tree,
+}
+
+/// A long feeder and a star path over it, which is the last of these paths; path 0 leads on, path 1 back.
+pub fn feeder(n: usize, feeder: Feeder, paths: &[&[u8]]) -> Commands {
+    let mut commands = vec![nodes(n)];
+    for a in 1..n {
+        commands.push(edge(0, if let Feeder::Tree = feeder { a / 2 } else { a - 1 }, a));
+    }
+    if let Feeder::Ring = feeder {
+        commands.push(edge(0, n - 1, 0));
+    }
+    commands.extend([vec![0x10, 0], vec![0x11, 0]]);
+    commands.extend(paths.iter().map(|path| path.to_vec()));
+    let last = paths.len() as u8 + 1;
+    commands.extend([vec![0x20], node_shape(n - 1), vec![0x27, 1, last, 1], vec![0x26, last, 2], vec![0x24, 3], vec![0x27, 9, last, 0], vec![0x25, last, last - 1]]);
+    with_targets(commands, n, 7)
+}
+
+/// The star of the path on, alone.
+pub const STAR: &[&[u8]] = &[&[0x14, 0]];
+
+/// Stars in stars: of the path on, of that or back, and so on.
+pub const STARS_IN_STARS: &[&[u8]] = &[&[0x14, 0], &[0x13, 2, 0], &[0x14, 3], &[0x12, 4, 1], &[0x14, 5], &[0x14, 6]];
+
+/// The star of two steps on and of the way back from two steps.
+pub const STAR_OF_SEQUENCE: &[&[u8]] = &[&[0x13, 0, 0], &[0x13, 2, 1], &[0x12, 2, 3], &[0x14, 4]];
+
 /// Sixteen paths, each of its forerunner twice: without a table of rows this takes time without end.
 pub fn deep_paths(r: &mut Random, n: usize, kinds: &[u8]) -> Commands {
     let mut commands = vec![nodes(n)];

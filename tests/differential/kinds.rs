@@ -37,6 +37,7 @@ pub fn kinds(plan: &Plan) -> Vec<Kind<Tally>> {
         list(plan, "chains", 3, |_| chains()),
         list(plan, "open chains", 6, |_| open_chains()),
         list(plan, "dense stars", 6, |r| [2, 63, 64, 65, 128].map(|n| bytes(&dense_star(r, n))).to_vec()),
+        list(plan, "feeders", 3, |_| feeders()),
         list(plan, "paths of paths", 2, paths_of_paths),
         list(plan, "clashes", 20, |r| [(1, 1), (3, 2), (64, 3), (128, 15)].map(|(n, pairs)| bytes(&clashes(r, n, pairs))).to_vec()),
         full_cut(plan, "full cut"),
@@ -228,6 +229,17 @@ fn damaged(r: &mut Random, refusals: &[usize]) -> Vec<u8> {
         }
     }
     bytes(&commands)
+}
+
+/// Every kind of feeder with every kind of star over it, at the edges of a word.
+fn feeders() -> Cases {
+    let mut cases = Vec::new();
+    for n in [1, 2, 63, 64, 65, 127, 128] {
+        for kind in [Feeder::Chain, Feeder::Ring, Feeder::Tree] {
+            cases.extend([STAR, STARS_IN_STARS, STAR_OF_SEQUENCE].map(|paths| bytes(&feeder(n, kind, paths))));
+        }
+    }
+    cases
 }
 
 fn built(r: &mut Random) -> Vec<u8> {
