@@ -156,9 +156,6 @@ fn prolog(case: &Case) -> String {
     let text = std::fs::read_to_string("tests/solver/judge.pl").unwrap();
     let text = text.replace(":- table fill/4, ", ":- discontiguous fill/4.\n:- table ").replace("fill(K,I,A,B) :- path(K,I,R), step(R,K,I,A,B).\n", "");
     let mut facts = format!("case(0,{},{}).\n", case.nodes, case.shapes.len());
-    for (_, a, b) in &case.edges {
-        facts += &format!("edge(0,0,{a},{b}).\n");
-    }
     for p in 0..case.paths.len() {
         for a in 0..case.nodes {
             for b in case.fillers(p, a) {

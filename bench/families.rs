@@ -3,9 +3,9 @@
 use crate::generator::*;
 use std::time::{Duration, Instant};
 
-pub const FAMILIES: [&str; 14] = [
+pub const FAMILIES: [&str; 15] = [
     "random", "positive chain", "denial chain", "both chains", "open chain", "open beside denials", "open after denials", "dense, star", "deep paths",
-    "feeder, chain", "feeder, ring", "feeder, tree", "feeder, stars in stars", "feeder, star of a sequence",
+    "feeder, chain", "feeder, ring", "feeder, tree", "feeder, stars in stars", "feeder, star of a sequence", "parks of the last edge",
 ];
 
 /// How many cases a family has at one size.
@@ -32,6 +32,7 @@ pub fn family(name: &str, n: usize, seed: u64) -> Vec<u8> {
         "feeder, tree" => feeder(n, Feeder::Tree, STAR),
         "feeder, stars in stars" => feeder(n, Feeder::Chain, STARS_IN_STARS),
         "feeder, star of a sequence" => feeder(n, Feeder::Ring, STAR_OF_SEQUENCE),
+        "parks of the last edge" => parked_last(n),
         _ => deep_paths(r, n, &[0x13, 0x13, 0x14]),
     })
 }

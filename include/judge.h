@@ -34,9 +34,11 @@
  *   17      a shape depends on its own denial                            the lowest such shape
  *   18      a part of a command 28 is more than 8 deep                   the offset of the 28
  *   19      more than 32 shapes, written and fresh                       the command's offset
+ *   20      an edge to park is none that an earlier command 02 laid      the command's offset
  *
- * Reading's refusals are 1 to 9, 18 and 19. Command 28 holds a whole rule; what it writes inside itself become fresh shapes, numbered
- * after all written ones. Pairs, tables and the count of shapes are those of all shapes, fresh ones too.
+ * Reading's refusals are 1 to 9 and 18 to 20. Command 03 parks an edge: it stays on record and counts as an edge, but gives no fillers.
+ * Command 28 holds a whole rule; what it writes inside itself become fresh shapes, numbered after all written ones. Pairs, tables and the
+ * count of shapes are those of all shapes, fresh ones too.
  */
 #ifndef JUDGE_H
 #define JUDGE_H

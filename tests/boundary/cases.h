@@ -88,12 +88,21 @@ static void put_ands(unsigned levels, int named) {
   else put(0x20);
 }
 
-/* so many shapes are written; where they are less than 32, the last is a 28 that makes up for them. Of eight others so many are nots, and some more */
-static void make_full(unsigned nots, unsigned count) {
+/* so many of 1,024 commands lay an edge; the others park one of these */
+static void put_edges(unsigned laid) {
+  for (unsigned i = 0; i < 1024; i++) {
+    size_t edge = 3 + 6 * below(laid);
+    if (i < laid) put(0x02), put(below(4)), put_node(below(128)), put_node(below(128));
+    else put(0x03), memcpy(full + full_length, full + edge + 1, 5), full_length += 5;
+  }
+}
+
+/* so many edges are laid and so many shapes written; where these are less than 32, the last is a 28 that makes up for them. Of eight others so many are nots, and some more */
+static void make_full(unsigned nots, unsigned count, unsigned laid) {
   full_length = 0;
   written = count;
   put(0x01), put_node(128);
-  for (int i = 0; i < 1024; i++) put(0x02), put(below(4)), put_node(below(128)), put_node(below(128));
+  put_edges(laid);
   for (unsigned i = 0; i < 16; i++) put_path(i < 2 ? 0x10 + i : 0x10 + below(5), i);
   for (unsigned i = count < 32; i < count; i++) put_shape(below(8) < nots ? 0x24 : 0x20 + below(8));
   if (count < 32) put(0x28), put_part(32 - count + 1);
@@ -126,19 +135,26 @@ static void make_cases(void) {
   add_hex("no shapes", "01 80 00, 02 00 7F 00 00 00, FF");
   add_hex("strata", "01 02 00, 02 00 00 00 01 00, 10 00, 20, 24 00, 26 00 01, 24 02, 22 03 01, 30 04 00 00, FF");
   for (unsigned nots = 0; nots < 4; nots++) {
-    make_full(nots, 32);
+    make_full(nots, 32, 1024);
     add("full limits", full, full_length);
   }
-  make_full(1, 16);
+  make_full(1, 16, 1024);
   add("full limits, 16 shapes fresh", full, full_length);
-  make_full(1, 1);
+  make_full(1, 1, 1024);
   add("full limits, 31 shapes fresh", full, full_length);
+  make_full(1, 32, 512);
+  add("full limits, 512 parks", full, full_length);
+  add("full limits, a park cut", full, 3 + 6 * 1024 - 1);
+  full[3 + 6 * 1023 + 1] = 4;
+  add("full limits, a park of no edge", full, full_length);
+  make_full(1, 32, 1);
+  add("full limits, 1,023 parks", full, full_length);
   make_most_parts(0);
   add("most fresh shapes", full, full_length);
   make_most_parts(1);
   add("most named shapes", full, full_length);
   add("most named shapes, the last cut", full, full_length - 2);
-  make_full(1, 32);
+  make_full(1, 32, 1024);
   add("full, end missing", full, full_length - 1);
   add("full, cut in an edge", full, 4000);
   add("full, a target cut", full, full_length - 2);
@@ -181,6 +197,13 @@ static void make_cases(void) {
   add_hex("18", "01 01 00, 28 24 24 24 24 24 24 24 24 20, FF");
   add_hex("18, nothing there", "01 01 00, 28 24 24 24 24 24 24 24 24");
   add_hex("19", "01 01 00, 28 24 24 22 22 22 22 20 20 22 20 20 22 22 20 20 22 20 20 22 22 22 20 20 22 20 20 22 22 20 20 22 20 20, FF");
+  add_hex("parked ring", "01 04 00, 02 00 01 00 00 00, 02 00 02 00 03 00, 02 00 03 00 02 00, 02 01 00 00 00 00, 03 00 01 00 00 00, 10 00, 10 01, 20, 27 01 01 00, 27 01 00 03, 23 01 02, 24 03, 30 03 01 00, 30 03 02 00, FF");
+  add_hex("parked twice", "01 02 00, 02 00 00 00 01 00, 03 00 00 00 01 00, 02 00 00 00 01 00, 03 00 00 00 01 00, 10 00, 11 00, 20, 27 01 00 00, 27 01 01 00, 25 00 01, FF");
+  add_hex("a park cut", "01 02 00, 02 00 00 00 01 00, 03 00 00 00 01");
+  add_hex("03 alone", "01 02 00, 03");
+  add_hex("5 in a park", "01 02 00, 02 00 00 00 01 00, 03 00 00 00 02 00, FF");
+  add_hex("20", "01 02 00, 02 00 00 00 01 00, 03 00 01 00 00 00, FF");
+  add_hex("20, no edges", "01 02 00, 03 00 00 00 01 00");
 }
 
 /* ---- What is run, and what went wrong */

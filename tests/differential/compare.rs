@@ -1,10 +1,8 @@
 //! Calls of the library, each compared with the reference in full: number, place, counts, and every byte of every table and beside it.
 
-use crate::plan::{Group, Work};
-use crate::reference::parts::Part;
-use crate::reference::{Case, Judge};
-use crate::{calls, proposals, watch};
-use std::collections::BTreeMap;
+use crate::reference::Judge;
+use crate::tally::Tally;
+use crate::{calls, watch};
 
 // ---- Tables with a margin, in which a write outside the table shows
 
@@ -42,80 +40,6 @@ impl Table {
             }
         }
         format!("{name}: a byte outside the table was written")
-    }
-}
-
-// ---- What was compared
-
-/// The numbers that each operation can answer.
-const OPERATIONS: [(&str, &[usize]); 4] = [
-    ("read", &[0, 1, 2, 3, 4, 5, 6, 7, 8, 9, 18, 19]),
-    ("solve", &[0, 1, 2, 3, 4, 5, 6, 7, 8, 9, 18, 19, 10, 11, 12]),
-    ("check", &[0, 1, 2, 3, 4, 5, 6, 7, 8, 9, 18, 19, 10, 11, 13, 14, 15]),
-    ("rank", &[0, 1, 2, 3, 4, 5, 6, 7, 8, 9, 18, 19, 16, 17]),
-];
-
-/// What a fresh shape's part can be.
-const FRESH: [&str; 10] = ["top", "node", "and", "or", "not", "not of a not", "same", "all", "at least", "at most"];
-
-fn fresh_kind(part: &Part) -> &'static str {
-    match part {
-        Part::Top => "top",
-        Part::Node(_) => "node",
-        Part::And(..) => "and",
-        Part::Or(..) => "or",
-        Part::Not(inner) if matches!(**inner, Part::Not(_)) => "not of a not",
-        Part::Not(_) => "not",
-        Part::Same(..) => "same",
-        Part::All(..) => "all",
-        Part::AtLeast(..) => "at least",
-        Part::AtMost(..) => "at most",
-        Part::Named(_) => unreachable!("a named shape is none"),
-    }
-}
-
-#[derive(Default)]
-pub struct Tally {
-    pub cases: usize,
-    pub calls: usize,
-    numbers: BTreeMap<(&'static str, usize), usize>,
-    pub proposals: BTreeMap<&'static str, usize>,
-    /// of cases that read: fresh shapes by their part, written ones by the depth of theirs
-    fresh: BTreeMap<&'static str, usize>,
-    depths: BTreeMap<usize, usize>,
-}
-
-impl Work for Tally {
-    fn done(&self) -> usize {
-        self.calls
-    }
-}
-
-impl Tally {
-    fn note(&mut self, operation: &'static str, number: usize) {
-        self.calls += 1;
-        *self.numbers.entry((operation, number)).or_insert(0) += 1;
-    }
-
-    pub fn note_parts(&mut self, case: &Case) {
-        for part in &case.written {
-            *self.depths.entry(part.depth()).or_insert(0) += 1;
-        }
-        for part in &case.parts()[case.written.len()..] {
-            *self.fresh.entry(fresh_kind(part)).or_insert(0) += 1;
-        }
-    }
-
-    /// How often each number came that an operation can answer, each kind of proposal, and each kind and depth of part.
-    pub fn groups(&self) -> Vec<Group> {
-        let came = |operation, number: usize| (number.to_string(), self.numbers.get(&(operation, number)).copied().unwrap_or(0));
-        let proposed = |kind: &str| (kind.to_string(), self.proposals.get(kind).copied().unwrap_or(0));
-        let answers = |(operation, numbers): (&'static str, &[usize])| (operation, numbers.iter().map(|number| came(operation, *number)).collect());
-        let mut groups: Vec<Group> = OPERATIONS.into_iter().map(answers).collect();
-        groups.push(("proposals", proposals::names().into_iter().map(proposed).collect()));
-        groups.push(("fresh shapes", FRESH.map(|kind| (kind.to_string(), self.fresh.get(kind).copied().unwrap_or(0))).to_vec()));
-        groups.push(("depths", (1..=8).map(|depth| (depth.to_string(), self.depths.get(&depth).copied().unwrap_or(0))).collect()));
-        groups
     }
 }
 
@@ -214,4 +138,15 @@ pub fn compare_rank(tally: &mut Tally, judge: &Judge, case: &[u8], strata: &[u8]
         call.fail(table.differs("strata", &expected));
     }
     tally.note("rank", answer[0]);
+}
+
+/// Two cases that the documents say are solved alike: the same answer and the same bytes in every table.
+pub fn compare_solutions(tally: &mut Tally, case: &[u8], other: &[u8], how: &str) {
+    let call = Call { name: "judge_solve", case, tables: vec![] };
+    let (got, expected) = (calls::solved(case), calls::solved(other));
+    if got != expected {
+        call.fail(format!("{how} it is solved as {expected:?}, else as {got:?}"));
+    }
+    tally.note("solve", got.0[0]);
+    tally.note("solve", expected.0[0]);
 }

@@ -1,9 +1,11 @@
 //! All operations on one case: tables of many lengths, proposals of many kinds.
 
+use crate::calls;
 use crate::compare::*;
-use crate::generator::Random;
+use crate::generator::{without_parked, without_parks, Random};
 use crate::proposals::*;
 use crate::reference::{Case, Judge};
+use crate::tally::Tally;
 
 fn filler(r: &mut Random, length: usize) -> Vec<u8> {
     let (start, step) = (r.byte(), r.byte());
@@ -62,8 +64,11 @@ fn examine_tables(tally: &mut Tally, r: &mut Random, judge: &mut Judge, case: &[
 fn examine_proposals(tally: &mut Tally, r: &mut Random, judge: &mut Judge, case: &[u8], count: usize) {
     let solved = judge.solved().clone();
     let read = judge.read.clone().unwrap();
-    tally.note_parts(&read);
+    tally.note_case(&read);
     hold_to_parts(&read, &solved.values);
+    if read.edges.iter().any(|edge| edge.parks) {
+        hold_to_unparked(tally, case, &solved.values);
+    }
     compare_check(tally, judge, case, &solved.values, &level_bytes(&solved.levels));
     for _ in 0..count {
         let proposal = proposal(r, &read, &solved);
@@ -79,13 +84,20 @@ fn examine_proposals(tally: &mut Tally, r: &mut Random, judge: &mut Judge, case:
             levels.truncate(about(r, 2 * read.pairs()));
         }
         compare_check(tally, judge, case, &values, &levels);
-        *tally.proposals.entry(proposal.kind).or_insert(0) += 1;
+        tally.note_kind("proposals", proposal.kind);
     }
 }
 
 /// The reference held to itself: in a stable assignment each shape has the value that recursion on its part gives, without the expansion.
 fn hold_to_parts(case: &Case, stable: &[u8]) {
     assert_eq!(case.values_by_parts(stable), stable, "reference: parts and their expansion disagree on {case:?}");
+}
+
+/// The library held to itself: a case with parked edges is solved as without them, levels and all. Counts whether parking them changed a value.
+fn hold_to_unparked(tally: &mut Tally, case: &[u8], values: &[u8]) {
+    compare_solutions(tally, case, &without_parked(case), "with its parked edges left out");
+    let changed = calls::solved(&without_parks(case)).1 != values;
+    tally.note_kind("parked edges", if changed { "that change values" } else { "that change none" });
 }
 
 /// Every assignment of a case of few pairs that is supported or stable, and every 16th other.

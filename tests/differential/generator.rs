@@ -1,8 +1,11 @@
-//! Random and built cases, whole and damaged. A case is kept as a list of commands until its bytes are wanted, so that damage can be done to commands as well as to bytes. Those with parts have a file of their own.
+//! Random and built cases, whole and damaged. A case is kept as a list of commands until its bytes are wanted, so that damage can be done to commands as well as to bytes. Those with parts and those with parked edges have files of their own.
 
 #[path = "nested.rs"]
 mod nested;
+#[path = "parked.rs"]
+mod parked;
 pub use nested::*;
+pub use parked::*;
 
 /// SplitMix64: the same numbers from the same seed on every machine.
 pub struct Random(pub u64);
@@ -60,6 +63,10 @@ pub fn edge(p: usize, a: usize, b: usize) -> Vec<u8> {
     vec![0x02, low(p), low(a), high(a), low(b), high(b)]
 }
 
+pub fn park(p: usize, a: usize, b: usize) -> Vec<u8> {
+    vec![0x03, low(p), low(a), high(a), low(b), high(b)]
+}
+
 pub fn node_shape(a: usize) -> Vec<u8> {
     vec![0x21, low(a), high(a)]
 }
@@ -96,7 +103,10 @@ pub enum Layout {
 #[derive(Clone, Copy)]
 pub struct Size {
     pub nodes: usize,
+    /// 02s and 03s together
     pub edges: usize,
+    /// of 16 of them, about how many are parks, or an edge once more that is parked
+    pub parks: usize,
     pub properties: usize,
     pub paths: usize,
     pub shapes: usize,
@@ -125,6 +135,7 @@ pub fn small(r: &mut Random) -> Size {
     Size {
         nodes: r.range(0, 5),
         edges: r.range(0, 9),
+        parks: 0,
         properties: r.range(1, 3),
         paths: r.range(0, 4),
         shapes: r.range(0, 7),
@@ -148,6 +159,7 @@ pub fn medium(r: &mut Random) -> Size {
     Size {
         nodes: r.range(3, 24),
         edges: r.range(3, 80),
+        parks: 0,
         properties: r.range(1, 4),
         paths: r.range(1, 8),
         shapes: r.range(3, 16),
@@ -166,6 +178,7 @@ pub fn large(r: &mut Random) -> Size {
     Size {
         nodes: r.pick(&[31, 32, 33, 63, 64, 65, 96, 127, 128, 128]),
         edges: r.pick(&[60, 128, 300, 700, 1023, 1024]),
+        parks: 0,
         properties: r.range(1, 6),
         paths: r.range(4, 16),
         shapes: r.range(8, 32),
@@ -201,7 +214,10 @@ pub fn random_case(r: &mut Random, size: &Size) -> Commands {
             // chains keep one property, so that a single path follows them
             let p = if i < n && matches!(size.layout, Layout::Chain | Layout::Ring) { 0 } else { p };
             // a repeat now and then
-            if commands.len() > 1 && r.one_in(12) {
+            if size.parks > 0 && i > 0 && r.below(16) < size.parks {
+                let command = random_park(r, &commands[1..]);
+                commands.push(command);
+            } else if commands.len() > 1 && r.one_in(12) {
                 let again = commands[r.range(1, commands.len() - 1)].clone();
                 commands.push(again);
             } else {
@@ -437,6 +453,20 @@ pub fn feeder(n: usize, feeder: Feeder, paths: &[&[u8]]) -> Commands {
     if let Feeder::Ring = feeder {
         commands.push(edge(0, n - 1, 0));
     }
+    over_feeder(commands, n, paths)
+}
+
+/// As many parks as edges, up to the limit, and all of the edge that was laid last: what looks for it goes past every other.
+pub fn parked_last(n: usize) -> Commands {
+    let mut commands = vec![nodes(n)];
+    commands.extend((0..512).map(|i| edge(i / n, i % n, (i + 1) % n)));
+    let last = (511 / n, 511 % n, 512 % n);
+    commands.extend(vec![park(last.0, last.1, last.2); 512]);
+    over_feeder(commands, n, STAR)
+}
+
+/// The paths of a feeder, and shapes that ask for the fillers of the last.
+fn over_feeder(mut commands: Commands, n: usize, paths: &[&[u8]]) -> Commands {
     commands.extend([vec![0x10, 0], vec![0x11, 0]]);
     commands.extend(paths.iter().map(|path| path.to_vec()));
     let last = paths.len() as u8 + 1;
@@ -491,7 +521,7 @@ pub fn clashes(r: &mut Random, n: usize, pairs: usize) -> Commands {
 
 // ---- Damage
 
-const KNOWN: [u8; 18] = [0x01, 0x02, 0x10, 0x11, 0x12, 0x13, 0x14, 0x20, 0x21, 0x22, 0x23, 0x24, 0x25, 0x26, 0x27, 0x28, 0x30, 0xFF];
+const KNOWN: [u8; 19] = [0x01, 0x02, 0x03, 0x10, 0x11, 0x12, 0x13, 0x14, 0x20, 0x21, 0x22, 0x23, 0x24, 0x25, 0x26, 0x27, 0x28, 0x30, 0xFF];
 
 fn count(commands: &Commands, from: u8, to: u8) -> usize {
     commands.iter().filter(|c| (from..=to).contains(&c[0])).count()
@@ -504,11 +534,11 @@ fn end_of(commands: &Commands, byte: u8) -> usize {
 
 /// Commands of these kinds that no earlier damage has cut.
 fn positions(commands: &Commands, of: &[u8]) -> Vec<usize> {
-    let whole = |c: &Vec<u8>| c.len() == match c[0] { 0x02 => 6, 0x27 | 0x30 => 4, 0x14 | 0x24 => 2, _ => 3 };
+    let whole = |c: &Vec<u8>| c.len() == match c[0] { 0x02 | 0x03 => 6, 0x27 | 0x30 => 4, 0x14 | 0x24 => 2, _ => 3 };
     (0..commands.len()).filter(|i| of.contains(&commands[*i][0]) && whole(&commands[*i])).collect()
 }
 
-/// Damages a sound case so that, alone, it leads to the refusal asked for (1 to 9), where the case has a command that can be damaged so.
+/// Damages a sound case so that, alone, it leads to the refusal asked for (1 to 9, or 20), where the case has a command that can be damaged so.
 pub fn damage(r: &mut Random, commands: &mut Commands, refusal: usize) {
     damage_one(r, commands, refusal);
     // a command cut to nothing is none
@@ -521,7 +551,7 @@ fn damage_one(r: &mut Random, commands: &mut Commands, refusal: usize) {
     match refusal {
         1 => {
             let byte = loop {
-                let byte = if r.one_in(2) { r.pick(&[0x00, 0x03, 0x0F, 0x15, 0x1F, 0x29, 0x2A, 0x2B, 0x2F, 0x31, 0xFE]) } else { r.byte() };
+                let byte = if r.one_in(2) { r.pick(&[0x00, 0x04, 0x0F, 0x15, 0x1F, 0x29, 0x2A, 0x2B, 0x2F, 0x31, 0xFE]) } else { r.byte() };
                 if !KNOWN.contains(&byte) {
                     break byte;
                 }
@@ -550,16 +580,16 @@ fn damage_one(r: &mut Random, commands: &mut Commands, refusal: usize) {
         4 => {
             let (byte, limit, command) = match r.below(5) {
                 0 => { let n = r.pick(&[129, 130, 255, 256, 257, 384, 0x8000, 0xFFFF]); commands[0] = nodes(n); return; }
-                1 => (0x02, 1024, edge(0, 0, 0)),
+                1 => (0x03, 1024, edge(0, 0, 0)),
                 2 => (0x14, 16, vec![0x10, 0]),
                 3 => (0x28, 32, vec![0x20]),
                 _ => (0x30, 256, target(0, 0)),
             };
-            if n == 0 && matches!(byte, 0x02 | 0x30) {
+            if n == 0 && matches!(byte, 0x03 | 0x30) {
                 return;
             }
             let there = match byte {
-                0x02 => count(commands, 2, 2),
+                0x03 => count(commands, 2, 3),
                 0x14 => count(commands, 0x10, 0x14),
                 0x28 => count(commands, 0x20, 0x28),
                 _ => count(commands, 0x30, 0x30),
@@ -569,7 +599,8 @@ fn damage_one(r: &mut Random, commands: &mut Commands, refusal: usize) {
             // the one that is too many may have more wrong with it, or less of it
             match r.below(6) {
                 0 => { fill.last_mut().unwrap().pop(); }
-                1 if byte == 0x02 => { *fill.last_mut().unwrap() = edge(0, n, 0); }
+                1 if byte == 0x03 => { *fill.last_mut().unwrap() = edge(0, n, 0); }
+                5 if byte == 0x03 => { *fill.last_mut().unwrap() = park(r.pick(&[0, 255]), 0, 0); }
                 2 if byte == 0x14 => { *fill.last_mut().unwrap() = vec![0x14, 99]; }
                 3 if byte == 0x28 => { *fill.last_mut().unwrap() = vec![0x27, 0, 99, 99]; }
                 4 if byte == 0x30 => { *fill.last_mut().unwrap() = target(99, n); }
@@ -577,11 +608,11 @@ fn damage_one(r: &mut Random, commands: &mut Commands, refusal: usize) {
             }
             commands.splice(at..at, fill);
         }
-        5 => if let Some(i) = some(r, positions(commands, &[0x02, 0x21, 0x30])) {
+        5 => if let Some(i) = some(r, positions(commands, &[0x02, 0x03, 0x21, 0x30])) {
             // the node number itself, one of its bytes, or far off
             let bad = r.pick(&[n, n + 1, 255, 256, 0x8000, 0xFFFF]).max(n);
             let c = &mut commands[i];
-            let at = match c[0] { 0x02 => r.pick(&[2, 4]), 0x21 => 1, _ => 2 };
+            let at = match c[0] { 0x02 | 0x03 => r.pick(&[2, 4]), 0x21 => 1, _ => 2 };
             c[at] = low(bad);
             c[at + 1] = high(bad);
         },
@@ -604,6 +635,7 @@ fn damage_one(r: &mut Random, commands: &mut Commands, refusal: usize) {
             tail.extend((1..length).map(|_| r.byte()));
             commands.push(tail);
         }
+        20 => park_unknown(r, commands),
         _ => if let Some(i) = some(r, positions(commands, &[0x22, 0x23, 0x24, 0x26, 0x27, 0x30])) {
             let shapes = count(commands, 0x20, 0x28);
             let c = &mut commands[i];

@@ -6,17 +6,20 @@ mod examine;
 mod generator;
 mod interface;
 mod kinds;
+mod park_kinds;
 mod part_kinds;
 mod plan;
 mod proposals;
 #[allow(dead_code)]
 mod reference;
 mod samples;
+mod tally;
 mod watch;
 
 use compare::*;
 use plan::Plan;
 use reference::Judge;
+use tally::Tally;
 
 fn run(words: &[String]) -> Result<String, String> {
     let plan = Plan::of(words)?;

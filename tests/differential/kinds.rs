@@ -3,10 +3,10 @@
 use crate::compare::*;
 use crate::examine::*;
 use crate::generator::*;
-use crate::part_kinds;
 use crate::plan::{Kind, Plan};
 use crate::reference::Judge;
-use crate::samples;
+use crate::tally::Tally;
+use crate::{park_kinds, part_kinds, samples};
 
 pub type Cases = Vec<Vec<u8>>;
 
@@ -28,10 +28,10 @@ pub fn kinds(plan: &Plan) -> Vec<Kind<Tally>> {
     let mut kinds = vec![
         Kind::listed("samples", 1, |tally: &mut Tally, _, _| tally.calls += samples::run()),
         list(plan, "ring", 200, |_| vec![ring()]),
-        list(plan, "ring cut", 0, |_| (0..ring().len()).map(|n| ring()[..n].to_vec()).collect()),
-        list(plan, "ring with a byte less", 1, |_| ring_less()),
-        list(plan, "ring with a byte more", 1, |_| ring_more()),
-        list(plan, "ring with a byte changed", 1, |_| ring_changed()),
+        list(plan, "ring cut", 0, |_| cut(&ring())),
+        list(plan, "ring with a byte less", 1, |_| with_a_byte_less(&ring())),
+        list(plan, "ring with a byte more", 1, |_| with_a_byte_more(&ring(), 0, &KNOWN_OR_NEAR)),
+        list(plan, "ring with a byte changed", 1, |_| with_a_byte_changed(&ring(), 0)),
         list(plan, "limits", 2, |_| limits()),
         list(plan, "least numbers", 2, |_| least_numbers()),
         list(plan, "chains", 3, |_| chains()),
@@ -47,12 +47,12 @@ pub fn kinds(plan: &Plan) -> Vec<Kind<Tally>> {
         kinds.push(list(plan, "slowest", 3, |_| vec![bytes(&both_chains(128, 15, 17))]));
     }
     for refusal in 1..=9 {
-        kinds.push(draw(&format!("damaged for {refusal}"), 300, 1, move |r| damaged(r, &[refusal])));
+        kinds.push(draw(&format!("damaged for {refusal}"), 300, 1, move |r| damaged(r, small_or_medium, &[refusal])));
     }
     kinds.extend([
         draw("damaged", 16000, 1, |r| {
             let refusals: Vec<usize> = (0..r.pick(&[1, 1, 1, 2, 3])).map(|_| r.range(1, 9)).collect();
-            damaged(r, &refusals)
+            damaged(r, small_or_medium, &refusals)
         }),
         draw("bytes changed", 16000, 1, |r| {
             let mut case = drawn(r, small_or_medium);
@@ -70,39 +70,49 @@ pub fn kinds(plan: &Plan) -> Vec<Kind<Tally>> {
         }),
     ]);
     kinds.extend(part_kinds::kinds(plan));
+    kinds.extend(park_kinds::kinds(plan));
     kinds
 }
 
-// ---- The ring case, whole and spoilt
+// ---- Whole cases, and each byte of them spoilt
 
 fn ring() -> Vec<u8> {
     samples::hex(samples::RING)
 }
 
-fn ring_less() -> Cases {
-    let without = |n: usize| { let mut case = ring(); case.remove(n); case };
-    (0..ring().len()).map(without).collect()
+/// Every start of a case.
+pub fn cut(case: &[u8]) -> Cases {
+    (0..case.len()).map(|n| case[..n].to_vec()).collect()
 }
 
-fn ring_more() -> Cases {
-    let mut cases = Vec::new();
-    for n in 0..=ring().len() {
-        for byte in [0x00, 0x01, 0x02, 0x03, 0x10, 0x14, 0x20, 0x24, 0x27, 0x28, 0x29, 0x2A, 0x30, 0x31, 0xFE, 0xFF] {
-            let mut case = ring();
-            case.insert(n, byte);
-            cases.push(case);
-        }
-    }
-    cases
+pub fn with_a_byte_less(case: &[u8]) -> Cases {
+    (0..case.len()).map(|n| [&case[..n], &case[n + 1..]].concat()).collect()
 }
 
-fn ring_changed() -> Cases {
+/// Command bytes and some that are none.
+const KNOWN_OR_NEAR: [u8; 17] = [0x00, 0x01, 0x02, 0x03, 0x04, 0x10, 0x14, 0x20, 0x24, 0x27, 0x28, 0x29, 0x2A, 0x30, 0x31, 0xFE, 0xFF];
+
+/// Each of these bytes at every offset from one on.
+pub fn with_a_byte_more(case: &[u8], from: usize, bytes: &[u8]) -> Cases {
+    let with = |n: usize, byte: u8| [&case[..n], &[byte], &case[n..]].concat();
+    (from..=case.len()).flat_map(|n| bytes.iter().map(move |byte| with(n, *byte))).collect()
+}
+
+/// Every byte from an offset on, changed to any other.
+pub fn with_a_byte_changed(case: &[u8], from: usize) -> Cases {
+    let with = |n: usize, byte: u8| [&case[..n], &[byte], &case[n + 1..]].concat();
+    (from..case.len()).flat_map(|n| (0..=255).map(move |byte| with(n, byte))).collect()
+}
+
+/// One of these before or behind every command of a case; whole, and with the input over behind it.
+pub fn with_a_stray(commands: &Commands, strays: &[&str]) -> Cases {
     let mut cases = Vec::new();
-    for n in 0..ring().len() {
-        for byte in 0..=255 {
-            let mut case = ring();
-            case[n] = byte;
-            cases.push(case);
+    for at in 0..=commands.len() {
+        for stray in strays {
+            let mut case = commands.clone();
+            case.insert(at, samples::hex(stray));
+            cases.push(bytes(&case));
+            cases.push(bytes(&case[..at + 1].to_vec()));
         }
     }
     cases
@@ -219,8 +229,9 @@ fn full_or_large(r: &mut Random) -> Size {
     if r.one_in(2) { full(r) } else { large(r) }
 }
 
-fn damaged(r: &mut Random, refusals: &[usize]) -> Vec<u8> {
-    let size = small_or_medium(r);
+/// A case of some size, damaged for one refusal after another.
+pub fn damaged(r: &mut Random, size: fn(&mut Random) -> Size, refusals: &[usize]) -> Vec<u8> {
+    let size = size(r);
     let mut commands = random_case(r, &size);
     for refusal in refusals {
         // an earlier damage may leave nothing to damage

@@ -1,19 +1,19 @@
 //! The kinds of turns with rules inside rules (document 02, point 2): lists that leave nothing out, then random 28s, whole and damaged.
 
-use crate::compare::*;
 use crate::examine::*;
 use crate::generator::*;
 use crate::kinds::*;
 use crate::plan::{Kind, Plan};
 use crate::samples;
+use crate::tally::Tally;
 
 pub fn kinds(plan: &Plan) -> Vec<Kind<Tally>> {
     let mut kinds = vec![
         list(plan, "nested", 100, |_| wholes()),
-        list(plan, "nested cut", 0, |_| wholes().iter().flat_map(|case| (0..case.len()).map(|n| case[..n].to_vec())).collect()),
-        list(plan, "nested with a byte less", 1, |_| with_a_byte_less()),
-        list(plan, "nested with a byte more", 1, |_| with_a_byte_more()),
-        list(plan, "nested with a byte changed", 1, |_| with_a_byte_changed()),
+        list(plan, "nested cut", 0, |_| wholes().iter().flat_map(|case| cut(case)).collect()),
+        list(plan, "nested with a byte less", 1, |_| wholes().iter().flat_map(|case| with_a_byte_less(case)).collect()),
+        list(plan, "nested with a byte more", 1, |_| with_a_byte_more(&every_part(), SHAPES_AT, &PART_OR_NEAR)),
+        list(plan, "nested with a byte changed", 1, |_| with_a_byte_changed(&every_part(), SHAPES_AT)),
         list(plan, "nots of nots", 20, |_| nots_of_nots()),
         list(plan, "numbers in parts", 2, |_| numbers()),
         list(plan, "depths", 1, |_| depths()),
@@ -65,7 +65,7 @@ fn part_damaged(r: &mut Random, refusals: &[usize]) -> Vec<u8> {
     bytes(&commands)
 }
 
-// ---- Whole cases, and each byte of them spoilt
+// ---- Whole cases
 
 /// The samples, and one case with every part byte, outermost and deeper.
 fn wholes() -> Cases {
@@ -94,34 +94,8 @@ fn every_part() -> Vec<u8> {
 /// Where the shapes of the frame begin.
 const SHAPES_AT: usize = 3 + 6 + 6 + 2 + 2;
 
-fn with_a_byte_less() -> Cases {
-    let without = |case: &Vec<u8>, n: usize| { let mut case = case.clone(); case.remove(n); case };
-    wholes().iter().flat_map(|case| (0..case.len()).map(|n| without(case, n)).collect::<Cases>()).collect()
-}
-
-fn with_a_byte_more() -> Cases {
-    let mut cases = Vec::new();
-    for n in SHAPES_AT..every_part().len() {
-        for byte in [0x00, 0x01, 0x1F, 0x20, 0x21, 0x22, 0x23, 0x24, 0x25, 0x26, 0x27, 0x28, 0x29, 0x2A, 0x2B, 0x30, 0xFF] {
-            let mut case = every_part();
-            case.insert(n, byte);
-            cases.push(case);
-        }
-    }
-    cases
-}
-
-fn with_a_byte_changed() -> Cases {
-    let mut cases = Vec::new();
-    for n in SHAPES_AT..every_part().len() {
-        for byte in 0..=255 {
-            let mut case = every_part();
-            case[n] = byte;
-            cases.push(case);
-        }
-    }
-    cases
-}
+/// Part bytes and some that are none.
+const PART_OR_NEAR: [u8; 17] = [0x00, 0x01, 0x1F, 0x20, 0x21, 0x22, 0x23, 0x24, 0x25, 0x26, 0x27, 0x28, 0x29, 0x2A, 0x2B, 0x30, 0xFF];
 
 // ---- Values of parts
 
@@ -319,14 +293,5 @@ fn names_of_shapes() -> Cases {
 /// A 28, whole or cut, and bare parts that no 28 holds, before and behind every command of a case.
 fn out_of_place() -> Cases {
     let commands = vec![nodes(2), edge(0, 0, 1), edge(0, 1, 1), vec![0x10, 0], vec![0x11, 0], vec![0x20], nested(&[0x24, 0x29, 0]), vec![0x24, 1], target(0, 1), target(1, 1), vec![0xFF]];
-    let mut cases = Vec::new();
-    for at in 0..=commands.len() {
-        for stray in ["28 20", "28 24 29 00", "28", "28 24", "28 FF", "29 00", "2A 00 00 20", "2A", "2B"] {
-            let mut case = commands.clone();
-            case.insert(at, samples::hex(stray));
-            cases.push(bytes(&case));
-            cases.push(bytes(&case[..at + 1].to_vec()));
-        }
-    }
-    cases
+    with_a_stray(&commands, &["28 20", "28 24 29 00", "28", "28 24", "28 FF", "29 00", "2A 00 00 20", "2A", "2B"])
 }

@@ -1,6 +1,7 @@
-//! Samples held to the library alone: those of document 01, as document 02 has changed them, and some of rules inside rules, worked out by hand; every expected number is the documents'.
+//! Samples held to the library alone: those of document 01, as document 02 has changed them, and some of rules inside rules and of parked edges, worked out by hand; every expected number is the documents'.
 
 use crate::calls::*;
+use crate::generator::{without_parked, without_parks};
 use crate::proposals::level_bytes;
 use std::fmt::Debug;
 
@@ -14,6 +15,12 @@ pub const AT_MOST: &str = "01 03 00, 02 00 00 00 01 00, 02 00 00 00 02 00, 10 00
 
 /// One node with an edge to itself. Written: 0 and 3 6, 1 node 0, 2 not 8. Fresh, as they open: 3 not 4, 4 at least 1 of 5, 5 not 1, 6 not 7, 7 top; of the second 28: 8 node 0.
 pub const FRESH: &str = "01 01 00, 02 00 00 00 00 00, 10 00, 28 22 2A 00 00 24 29 01 24 20, 21 00 00, 28 24 21 00 00, FF";
+
+/// The ring case with the relay of fitting 1 parked: now it is not linked either.
+pub const PARKED_RING: &str = "01 04 00, 02 00 01 00 00 00, 02 00 02 00 03 00, 02 00 03 00 02 00, 02 01 00 00 00 00, 03 00 01 00 00 00, 10 00, 10 01, 20, 27 01 01 00, 27 01 00 03, 23 01 02, 24 03, 30 03 01 00, 30 03 02 00, FF";
+
+/// The edge from 0 to 1 of property 0, laid three times and parked twice, and that of property 1. Shapes: top; at least 1 on, and back; all of node 0 on; same on by both properties, and on and back; at least 1 by either; at least 2 and 1 by a star.
+pub const PARKED: &str = "01 02 00, 02 00 00 00 01 00, 02 00 00 00 01 00, 03 00 00 00 01 00, 03 00 00 00 01 00, 02 00 00 00 01 00, 02 01 00 00 01 00, 10 00, 11 00, 10 01, 12 00 02, 14 00, 20, 27 01 00 00, 27 01 01 00, 21 00 00, 26 00 03, 25 00 02, 25 00 01, 27 01 03 00, 27 02 04 00, 27 01 04 00, FF";
 
 pub fn hex(text: &str) -> Vec<u8> {
     let digits: Vec<u8> = text.chars().filter_map(|c| c.to_digit(16)).map(|d| d as u8).collect();
@@ -31,9 +38,8 @@ fn levels(text: &str) -> Vec<usize> {
 
 /// What the desk program prints of a solved case.
 fn listing(case: &[u8]) -> String {
-    let [_, _, nodes, _, _, shapes, targets] = judge_read(case);
-    let (mut v, mut l, mut d) = (vec![9; shapes * nodes], vec![9; 2 * shapes * nodes], vec![9; targets]);
-    let answer = judge_solve(case, &mut v, &mut l, &mut d);
+    let [_, _, nodes, _, _, shapes, _] = judge_read(case);
+    let (answer, v, _, d) = solved(case);
     let text = |row: &[u8]| row.iter().map(|value| value.to_string()).collect::<String>();
     let line = |name: String, row: &[u8]| if row.is_empty() { format!("{name}\n") } else { format!("{name} {}\n", text(row)) };
     let mut out = format!("rounds {}\n", answer[2]);
@@ -41,14 +47,6 @@ fn listing(case: &[u8]) -> String {
         out += &line(s.to_string(), &v[s * nodes..(s + 1) * nodes]);
     }
     out + &line("targets".to_string(), &d)
-}
-
-/// Solves with tables of the right lengths: answer, values, levels, verdicts.
-fn solved(case: &[u8]) -> ([usize; 8], Vec<u8>, Vec<usize>, Vec<u8>) {
-    let [_, _, nodes, _, _, shapes, targets] = judge_read(case);
-    let (mut v, mut l, mut d) = (vec![9; shapes * nodes], vec![9; 2 * shapes * nodes], vec![9; targets]);
-    let answer = judge_solve(case, &mut v, &mut l, &mut d);
-    (answer, v, l.chunks(2).map(|level| level[0] as usize + 256 * level[1] as usize).collect(), d)
 }
 
 fn refused(number: usize, place: usize) -> [usize; 7] {
@@ -74,6 +72,8 @@ pub fn run() -> usize {
     samples_of_01(&mut held);
     solved_parts(&mut held);
     refused_parts(&mut held);
+    solved_parks(&mut held);
+    refused_parks(&mut held);
     held.0
 }
 
@@ -265,4 +265,64 @@ fn refused_parts(held: &mut Held) {
     read("33 in one, then a fault", &format!("01 01 00, 28 24 22 {many} 21 01 00, FF"), refused(5, 3));
     read("33 in one, then the input's end", &format!("01 01 00, 28 24 22 {many}"), refused(3, 3));
     read("33 in one, then an unknown command", &format!("01 01 00, 28 22 {many} 20, 00"), refused(19, 3));
+}
+
+// ---- Parked edges (document 02, point 4)
+
+fn solved_parks(held: &mut Held) {
+    let ring = hex(PARKED_RING);
+    held.same("parked ring, read", judge_read(&ring), [0, 0, 4, 5, 2, 5, 2]);
+    held.same("parked ring, listing", listing(&ring), "rounds 2\n0 2222\n1 2000\n2 0000\n3 2000\n4 0222\ntargets 00\n");
+    let (answer, v, l, d) = solved(&ring);
+    held.same("parked ring", answer, [0, 0, 2, 9, 0, 0, 0, 2]);
+    held.same("parked ring, levels", l.clone(), levels("1111 2000 0000 3000 0111"));
+    held.same("parked ring, verdicts", d, vec![0, 0]);
+    held.same("parked ring, solved proposal", judge_check(&ring, &v, &level_bytes(&l)), [0, 0, 0, 0]);
+    // what solved the ring is no assignment of it any more
+    let unparked = (digits("2222 2000 0200 2200 0022"), level_bytes(&levels("1111 2000 0400 3500 0011")));
+    held.same("parked ring, the ring's solution", judge_check(&ring, &unparked.0, &unparked.1), [14, 9, 0, 0]);
+
+    let parked = hex(PARKED);
+    held.same("parked, read", judge_read(&parked), [0, 0, 2, 6, 5, 10, 0]);
+    held.same("parked", solved(&parked).1, digits("22 00 00 20 22 02 22 20 00 22"));
+    held.same("parked, without its parked edge", solved(&without_parked(&parked)).1, digits("22 00 00 20 22 02 22 20 00 22"));
+    held.same("parked one way of two", solved(&hex("01 02 00, 02 00 00 00 01 00, 02 00 01 00 00 00, 03 00 00 00 01 00, 10 00, 20, 27 01 00 00, FF")).1, digits("22 02"));
+    held.same("parked, without its parks", solved(&without_parks(&parked)).1, digits("22 20 02 20 02 22 00 20 20 22"));
+}
+
+fn refused_parks(held: &mut Held) {
+    let mut read = |name: &str, text: &str, expected: [usize; 7]| held.same(name, judge_read(&hex(text)), expected);
+    let edges = |edges: usize| [0, 0, 2, edges, 0, 0, 0];
+
+    read("parked once", "01 02 00, 02 00 00 00 01 00, 03 00 00 00 01 00, FF", edges(2));
+    read("parked twice", "01 02 00, 02 00 00 00 01 00, 03 00 00 00 01 00, 03 00 00 00 01 00, FF", edges(3));
+    read("parked and laid again", "01 02 00, 02 00 00 00 01 00, 03 00 00 00 01 00, 02 00 00 00 01 00, FF", edges(3));
+    read("parked, after another edge", "01 02 00, 02 00 00 00 01 00, 02 00 00 00 00 00, 03 00 00 00 01 00, FF", edges(3));
+
+    read("no edges", "01 02 00, 03 00 00 00 01 00, FF", refused(20, 3));
+    read("parked before it is laid", "01 02 00, 03 00 00 00 01 00, 02 00 00 00 01 00, FF", refused(20, 3));
+    read("another property", "01 02 00, 02 00 00 00 01 00, 03 01 00 00 01 00, FF", refused(20, 9));
+    read("another subject", "01 02 00, 02 00 00 00 01 00, 03 00 01 00 01 00, FF", refused(20, 9));
+    read("another object", "01 02 00, 02 00 00 00 01 00, 03 00 00 00 00 00, FF", refused(20, 9));
+    read("ends changed round", "01 02 00, 02 00 00 00 01 00, 03 00 01 00 00 00, FF", refused(20, 9));
+    read("a subject that is no node", "01 02 00, 02 00 00 00 01 00, 03 00 02 00 01 00, FF", refused(5, 9));
+    read("an object that is no node", "01 02 00, 02 00 00 00 01 00, 03 00 00 00 01 01, FF", refused(5, 9));
+    read("no edge and no node", "01 00 00, 03 00 00 00 00 00, FF", refused(5, 3));
+    read("a park cut", "01 02 00, 02 00 00 00 01 00, 03 00 00 00 01", refused(3, 9));
+    read("03 alone", "01 02 00, 03", refused(3, 3));
+    read("03 first", "03 00 00 00 00 00", refused(2, 0));
+    read("03 after a path", "01 02 00, 02 00 00 00 01 00, 10 00, 03", refused(2, 11));
+    read("20, then an unknown command", "01 02 00, 03 00 00 00 01 00, 00", refused(20, 3));
+    read("20 before 8 and 9", "01 02 00, 03 00 00 00 01 00, 24 01, FF 00", refused(20, 3));
+
+    let (laid, parked) = ("02 00 00 00 01 00, ", "03 00 00 00 01 00, ");
+    let mut many = |name: &str, parks: usize, last: &str, expected: [usize; 7]| read(name, &format!("01 02 00, {laid} {} {last}", parked.repeat(parks)), expected);
+    many("1,023 with parks", 1022, "FF", edges(1023));
+    many("1,024 with parks", 1023, "FF", edges(1024));
+    many("1,025 with parks", 1024, "FF", refused(4, 6147));
+    many("the 1,025th laid", 1023, "02 00 00 00 01 00, FF", refused(4, 6147));
+    many("the 1,025th no edge", 1023, "03 00 01 00 00 00, FF", refused(4, 6147));
+    many("the 1,025th no node", 1023, "03 00 02 00 00 00, FF", refused(4, 6147));
+    many("the 1,025th cut", 1023, "03 00 00 00 01", refused(3, 6147));
+    many("the 1,024th no edge", 1022, "03 00 01 00 00 00, FF", refused(20, 6141));
 }

@@ -1,7 +1,7 @@
 //! Cases as facts for clingo and SWI-Prolog, and their answers.
 
 use crate::reference::parts::Part;
-use crate::reference::{Case, Path, Shape};
+use crate::reference::{Case, Edge, Path, Shape};
 use std::process::{Command, Stdio};
 
 /// What a solver goes by: the rules of the expansion, or each written shape as it is written, part by part.
@@ -26,8 +26,9 @@ impl By {
 /// The facts that both solvers read.
 fn common(k: usize, case: &Case, by: By) -> String {
     let mut text = String::new();
-    for (p, a, b) in &case.edges {
-        text += &format!("edge({k},{p},{a},{b}).\n");
+    for Edge { parks, link: (p, a, b) } in &case.edges {
+        let name = if *parks { "parked" } else { "edge" };
+        text += &format!("{name}({k},{p},{a},{b}).\n");
     }
     for (i, path) in case.paths.iter().enumerate() {
         let term = match path {

@@ -89,6 +89,8 @@ struct Tally {
     enumerated_by_parts: usize,
     consequences_by_parts: usize,
     well_founded_by_parts: usize,
+    /// cases with a parked edge
+    parked: usize,
 }
 
 impl Work for Tally {
@@ -110,6 +112,7 @@ impl Tally {
             ("all stable assignments by parts", self.enumerated_by_parts),
             ("consequences by parts", self.consequences_by_parts),
             ("well-founded model by parts", self.well_founded_by_parts),
+            ("with a parked edge", self.parked),
         ];
         ("compared", counts.map(|(name, count)| (name.to_string(), count)).to_vec())
     }
@@ -248,6 +251,13 @@ fn batch(r: &mut Random, count: usize, size: impl Fn(&mut Random) -> Size) -> Ve
     (0..count).map(|_| { let size = size(r); Asked::new(&random_case(r, &size)) }).collect()
 }
 
+/// The same, of which those with a parked edge are counted.
+fn parked_batch(tally: &mut Tally, r: &mut Random, count: usize, size: impl Fn(&mut Random) -> Size) -> Vec<Asked> {
+    let batch = batch(r, count, size);
+    tally.parked += batch.iter().filter(|asked| asked.case.edges.iter().any(|edge| edge.parks)).count();
+    batch
+}
+
 /// Up to 16 pairs and many nots: some thousands of stable assignments at the most.
 fn many_nots(r: &mut Random) -> Size {
     let nodes = r.range(1, 5);
@@ -264,6 +274,10 @@ fn many_nots_nested(r: &mut Random) -> Size {
 
 fn small_or_medium_nested(r: &mut Random) -> Size {
     if r.one_in(2) { small_nested(r) } else { medium_nested(r) }
+}
+
+fn small_or_medium_parked(r: &mut Random) -> Size {
+    if r.one_in(2) { small_parked(r) } else { medium_parked(r) }
 }
 
 fn of_any_size(r: &mut Random) -> Size {
@@ -311,6 +325,18 @@ fn kinds() -> Vec<Kind<Tally>> {
             let cases = batch(r, 60, small_or_medium_nested);
             well_founded(tally, &cases, By::Expansion);
             well_founded(tally, &cases, By::Parts);
+        }),
+        Kind::drawn("parked tiny", 3, |tally, r, _| {
+            let cases = parked_batch(tally, r, 40, tiny_parked);
+            enumerate(tally, r, &cases);
+        }),
+        Kind::drawn("parked medium", 4, |tally, r, _| {
+            let cases = parked_batch(tally, r, 20, medium_parked);
+            consequences(tally, &cases, By::Expansion);
+        }),
+        Kind::drawn("parked, small or medium", 4, |tally, r, _| {
+            let cases = parked_batch(tally, r, 60, small_or_medium_parked);
+            well_founded(tally, &cases, By::Expansion);
         }),
     ]
 }

@@ -15,7 +15,7 @@ use lib.Count.{ones, ones-cat, trailingZeros, under}
 use borrow.Author.Tests.{eqb-true, eqb-false, eq-eqb, ne-eqb, ltb-true, lt-ltb, le-ltb}
 use Rattle.fixpoint.specs.Lists.{from, upTo, count}
 use Rattle.fixpoint.proofs.Lists.{upTo-snoc, count-append, bool-cases, bool-ext, lt-cases}
-use Rattle.bitset.specs.Words.{bit, WithBit, WithBitIf, Without, WithoutBit, Lowest, BitsBelow, FirstBits}
+use Rattle.bitset.specs.Words.{bit, WithBit, WithBitIf, BitAssigned, Without, WithoutBit, Lowest, BitsBelow, FirstBits}
 
 -- a binary digit is 0 or 1
 digit-ind : (P : ℕ → Type 0) → P 0 → P 1 → (d : ℕ) → d < 2 → P d
@@ -129,6 +129,21 @@ bit-set-if {x} {j} u = record { bits = λ i l. u .bits i l ∙ ap (λ b. b || bi
 
 pub bit-kept : (x j : ℕ) → WithBitIf x j false x
 bit-kept x j = record { bits = λ i l. ap (λ b. b || bit x i) (sym (and-false (eqb i j))) }
+
+-- A bit set or left out
+pub cond-true : (x m : Bool) → cond x true m ≡ (x || m)
+cond-true true m = refl
+cond-true false m = refl
+
+cond-false : (x m : Bool) → cond x false m ≡ (m && not x)
+cond-false true m = sym (and-false m)
+cond-false false m = sym (and-true m)
+
+pub bit-put : {x j y : ℕ} {there : Bool} → there ≡ true → WithBit x j y → BitAssigned x j there y
+bit-put {x} {j} e u = rw e (record { bits = λ i l. u .bits i l ∙ sym (cond-true (eqb i j) (bit x i)) })
+
+pub bit-taken-out : {x j y : ℕ} {there : Bool} → there ≡ false → WithoutBit x j y → BitAssigned x j there y
+bit-taken-out {x} {j} e u = rw e (record { bits = λ i l. u .bits i l ∙ sym (cond-false (eqb i j) (bit x i)) })
 
 -- Bits set one by one: those below s are as f says
 pub below-next : (q s : ℕ) → (q ≡ s → ⊥) → ltb q s ≡ ltb q (s + 1)

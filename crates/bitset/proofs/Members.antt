@@ -4,7 +4,7 @@ use native.Mathlib.Nat.{add-zero, add-suc, mul-le-mul-right, suc-mul, le-trans, 
 use native.Mathlib.Omega.{arith}
 use mathlib.Core.Path.{_≡_, refl, sym, ap, ap₂, _∙_}
 use mathlib.Core.Logic.{_⊎_, inl, inr, ⊎-elim}
-use mathlib.Core.Bool.{Bool, true, false, not, _&&_, _||_, Bool·beq, and-eq-true-iff, or-comm}
+use mathlib.Core.Bool.{Bool, true, false, cond, not, _&&_, _||_, Bool·beq, and-eq-true-iff, or-comm}
 use mathlib.Core.List.{List, [], _∷_}
 use lib.ListN.{length, getD, set, length-set, List·getD-eq-default}
 use lib.Seq.{getD-set-same, getD-set-other, ext-getD}
@@ -16,8 +16,8 @@ use borrow.Author.Tests.{eqb-true, eqb-false, eq-eqb, ne-eqb}
 use borrow.Author.Count.{below-more}
 use Rattle.fixpoint.specs.Lists.{from, upTo, all, count}
 use Rattle.fixpoint.proofs.Lists.{length-upTo, upTo-snoc, count-append, count-le-length, all-upTo-in, all-upTo-of, bool-cases, bool-ext, lt-cases}
-use Rattle.bitset.specs.Words.{bit, member, Row, WithBit, Inserted, Joined, Cleared}
-use Rattle.bitset.proofs.Bits.{bit-and, bit-or, bit-zero, word-ext, ones-count}
+use Rattle.bitset.specs.Words.{bit, member, Row, BitAssigned, Inserted, Assigned, Joined, Cleared}
+use Rattle.bitset.proofs.Bits.{cond-true, bit-and, bit-or, bit-zero, word-ext, ones-count}
 
 -- Bools and tests
 pub eqb-same : (a b c d : ℕ) → (a ≡ b → c ≡ d) → (c ≡ d → a ≡ b) → eqb a b ≡ eqb c d
@@ -77,11 +77,11 @@ member-word t w r i j h =
     let f : (64 * i + j) % 64 ≡ j = omega arith in
     ap₂ (λ a b. bit (getD t (r * w + a) 0) b) e f
 
--- A word with bit b % 64 set, stored where b belongs
-pub inserted : {t : List ℕ} {w r b y : ℕ} → Row t w r → b < 64 * w
-    → WithBit (getD t (r * w + b / 64) 0) (b % 64) y → Inserted t w r b (set t (r * w + b / 64) y)
+-- A word with bit b % 64 as told, stored where b belongs
+pub assigned : {t : List ℕ} {w r b y : ℕ} {there : Bool} → Row t w r → b < 64 * w
+    → BitAssigned (getD t (r * w + b / 64) 0) (b % 64) there y → Assigned t w r b there (set t (r * w + b / 64) y)
 unfolding member
-inserted {t} {w} {r} {b} {y} f l g = record {
+assigned {t} {w} {r} {b} {y} {there} f l g = record {
   members = λ q m h.
       ⊎-elim
       (λ e. let p = eqb-true (q * w + m / 64) (r * w + b / 64) e in
@@ -89,16 +89,21 @@ inserted {t} {w} {r} {b} {y} f l g = record {
       ap (λ n. bit (getD (set t (r * w + b / 64) y) n 0) (m % 64)) p
       ∙ ap (λ x. bit x (m % 64)) (getD-set-same t (r * w + b / 64) y 0 (omega arith))
       ∙ g .bits (m % 64) (omega arith)
-      ∙ ap₂ (λ x n. x || bit (getD t n 0) (m % 64)) (eqb-same (m % 64) (b % 64) m b (λ k. omega arith) (λ k. omega arith)) (sym p)
-      ∙ ap (λ x. (x && eqb m b) || member t w q m) (sym (eq-eqb q r (place-row w q r (m / 64) (b / 64) (omega arith) (omega arith) p))))
+      ∙ ap₂ (λ x n. cond x there (bit (getD t n 0) (m % 64))) (eqb-same (m % 64) (b % 64) m b (λ k. omega arith) (λ k. omega arith)) (sym p)
+      ∙ ap (λ x. cond (x && eqb m b) there (member t w q m)) (sym (eq-eqb q r (place-row w q r (m / 64) (b / 64) (omega arith) (omega arith) p))))
       (λ e. let n = eqb-false (q * w + m / 64) (r * w + b / 64) e in
       ap (λ x. bit x (m % 64)) (getD-set-other t (r * w + b / 64) (q * w + m / 64) y 0 n)
-      ∙ ap (λ x. x || member t w q m)
+      ∙ ap (λ x. cond x there (member t w q m))
       (sym (fails (eqb q r && eqb m b) (λ k.
       let both = and-eq-true-iff (eqb q r) (eqb m b) .0 k in n (ap₂ (λ x z. x * w + z / 64) (eqb-true q r (both .0)) (eqb-true m b (both .1)))))))
       (bool-cases (eqb (q * w + m / 64) (r * w + b / 64)));
   long = length-set t (r * w + b / 64) y;
 }
+
+-- b was put into row r
+pub inserted : {t t′ : List ℕ} {w r b : ℕ} → Assigned t w r b true t′ → Inserted t w r b t′
+inserted {t} {t′} {w} {r} {b} v =
+    record { members = λ q m h. v .members q m h ∙ cond-true (eqb q r && eqb m b) (member t w q m); long = v .long }
 
 -- The first i words of row from were added to those of row into
 pub record JoinedTo (t : List ℕ) (w into from i : ℕ) (t′ : List ℕ) : Type 0 where

@@ -1,7 +1,7 @@
 -- Bits of words, membership in the rows of a table of w words a row, and what the functions on rows leave. Assumes nothing.
 use Prim.Native.Nat.{ℕ, _+_, _*_, _/_, _%_, _^_, _<_, _≤_}
 use mathlib.Core.Path.{_≡_}
-use mathlib.Core.Bool.{Bool, true, false, not, _&&_, _||_}
+use mathlib.Core.Bool.{Bool, true, false, cond, not, _&&_, _||_}
 use mathlib.Core.List.{List}
 use lib.ListN.{length, getD}
 use lib.Dec.{eqb, ltb}
@@ -25,6 +25,10 @@ pub record WithBit (x j y : ℕ) : Type 0 where
 -- a word with bit j set if `there`
 pub record WithBitIf (x j : ℕ) (there : Bool) (y : ℕ) : Type 0 where
   pub bits : (i : ℕ) → i < 64 → bit y i ≡ ((eqb i j && there) || bit x i)
+
+-- a word with bit j as `there` says
+pub record BitAssigned (x j : ℕ) (there : Bool) (y : ℕ) : Type 0 where
+  pub bits : (i : ℕ) → i < 64 → bit y i ≡ cond (eqb i j) there (bit x i)
 
 -- the bits of x outside y; fewer where y has one of them
 pub record Without (x y z : ℕ) : Type 0 where
@@ -52,6 +56,11 @@ pub record FirstBits (n x : ℕ) : Type 0 where
 -- b was put into row r; every other member is as it was
 pub record Inserted (t : List ℕ) (w r b : ℕ) (t′ : List ℕ) : Type 0 where
   pub members : (q m : ℕ) → m < 64 * w → member t′ w q m ≡ ((eqb q r && eqb m b) || member t w q m)
+  pub long : length t′ ≡ length t
+
+-- whether b is in row r is as `there` says; every other member is as it was
+pub record Assigned (t : List ℕ) (w r b : ℕ) (there : Bool) (t′ : List ℕ) : Type 0 where
+  pub members : (q m : ℕ) → m < 64 * w → member t′ w q m ≡ cond (eqb q r && eqb m b) there (member t w q m)
   pub long : length t′ ≡ length t
 
 -- row from was added to row into; every other row is as it was

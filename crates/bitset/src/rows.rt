@@ -1,12 +1,12 @@
-// Rows of a table: membership, insertion, union, and the tests and counts on two rows.
+// Rows of a table: membership, insertion and removal, union, and the tests and counts on two rows.
+use crate::words::assign_bit;
 use crate::words::has_bit;
-use crate::words::with_bit;
 ghost use mathlib.Core.Path.{_≡_};
 ghost use mathlib.Core.Bool.{_&&_, _||_, not, Bool·beq};
 ghost use Prim.Native.Nat.{_*_, _^_, _<_};
 ghost use lib.ListN.{length};
 ghost use Rattle.fixpoint.specs.Lists.{upTo, all, count};
-ghost use Rattle.bitset.specs.Words.{member, Row, Inserted, Joined, Cleared};
+ghost use Rattle.bitset.specs.Words.{member, Row, Inserted, Assigned, Joined, Cleared};
 
 // Whether b is in row r.
 pub fn is_member(t: &[u64], w: usize, r: usize, b: usize) -> bool
@@ -18,15 +18,24 @@ pub fn is_member(t: &[u64], w: usize, r: usize, b: usize) -> bool
     has_bit(t[at], b % 64)
 }
 
+// Puts b into row r, or takes it out.
+pub fn assign(t: &mut [u64], w: usize, r: usize, b: usize, there: bool)
+    requires { ⌜ Row (now t) w r ⌝ }
+    requires { ⌜ b < 64 * w ⌝ }
+    ensures { λ _. ⌜ Assigned (now (t .entry)) w r b there (now (t .exit)) ⌝ }
+{
+    let at = r * w + b / 64;
+    let word = assign_bit(t[at], b % 64, there);
+    t[at] = word;
+}
+
 // Puts b into row r.
 pub fn insert(t: &mut [u64], w: usize, r: usize, b: usize)
     requires { ⌜ Row (now t) w r ⌝ }
     requires { ⌜ b < 64 * w ⌝ }
     ensures { λ _. ⌜ Inserted (now (t .entry)) w r b (now (t .exit)) ⌝ }
 {
-    let at = r * w + b / 64;
-    let word = with_bit(t[at], b % 64);
-    t[at] = word;
+    assign(t, w, r, b, true);
 }
 
 // Adds row `from` to row `into`. Rows of two words, the commonest, go without a loop.

@@ -1,7 +1,7 @@
 // One word: its bits, a bit set or left out, the bits of one word outside another, the lowest bit, the first bits.
 ghost use mathlib.Core.Path.{_≡_};
 ghost use Prim.Native.Nat.{_<_};
-ghost use Rattle.bitset.specs.Words.{bit, WithBit, WithBitIf, Without, WithoutBit, Lowest, BitsBelow, FirstBits};
+ghost use Rattle.bitset.specs.Words.{bit, WithBit, WithBitIf, BitAssigned, Without, WithoutBit, Lowest, BitsBelow, FirstBits};
 
 pub fn has_bit(word: u64, j: usize) -> bool
     requires { ⌜ j < 64 ⌝ }
@@ -36,6 +36,18 @@ pub fn without_bit(word: u64, j: usize) -> u64
     ensures { λ r. ⌜ WithoutBit word j r ⌝ }
 {
     without(word, with_bit(0, j))
+}
+
+// A word with bit j set or left out.
+pub fn assign_bit(word: u64, j: usize, there: bool) -> u64
+    requires { ⌜ j < 64 ⌝ }
+    ensures { λ r. ⌜ BitAssigned word j there r ⌝ }
+{
+    if there {
+        with_bit(word, j)
+    } else {
+        without_bit(word, j)
+    }
 }
 
 // The lowest bit of a word that has one.

@@ -1,16 +1,16 @@
--- A sound case that keeps the limits is read back from its encoding, and reading bytes gives exactly such cases. Assumes nothing.
+-- A sound case that keeps the limits and parks edges that it has laid is read back from its encoding, and reading bytes gives exactly such cases. Assumes nothing.
 use Prim.Native.Nat.{ℕ, zero, suc, _+_, _*_, _/_, _%_, _≤_, _<_}
 use native.Mathlib.Omega.{arith}
 use mathlib.Core.Path.{_≡_, refl, sym, ap, _∙_}
-use mathlib.Core.Logic.{⊎-elim, _↔_}
-use mathlib.Core.Bool.{Bool, true, false, _&&_, false≢true, and-eq-true-iff}
+use mathlib.Core.Logic.{_⊎_, inl, inr, ⊎-elim, _↔_}
+use mathlib.Core.Bool.{Bool, true, false, not, _&&_, _||_, false≢true, and-eq-true-iff}
 use mathlib.Core.List.{List, [], _∷_, _++_, map, append-assoc, append-nil, map-append}
 use lib.ListN.{length, getD, drop, length-append, length-drop}
 use lib.Seq.{getD-append-seam, drop-drop}
 use lib.Dec.{eqb, ltb}
 use borrow.Author.Tests.{lt-ltb, le-ltb, le-leb, leb-true, ne-eqb, eqb-true, eqb-false}
 use Rattle.fixpoint.specs.Lists.{all}
-use Rattle.fixpoint.proofs.Lists.{tests, bool-cases, by-test, all-in, all-append, all-map, all-mono}
+use Rattle.fixpoint.proofs.Lists.{tests, bool-cases, by-test, or-cases, or-left, or-right, all-in, all-append, all-map, all-mono}
 use Rattle.cases.specs.declared.command.Edge.{Edge}
 use Rattle.cases.specs.declared.command.Target.{Target}
 use Rattle.cases.specs.declared.command.Row.{Row}
@@ -21,22 +21,25 @@ use Rattle.cases.specs.declared.command.PathRule.{PathRule}
 use Rattle.cases.specs.declared.command.PathRule.the-variants.{Forward, Backward, Union, Sequence, Star}
 use Rattle.cases.specs.declared.command.ShapeRule.{ShapeRule}
 use Rattle.cases.specs.declared.command.ShapeRule.the-variants.{Top, Node, And, Or, Not, Same, All, AtLeast}
+use Rattle.cases.specs.declared.numbers.Node.{Node as NodeNumber}
+use Rattle.cases.specs.declared.numbers.Property.{Property}
 use Rattle.cases.specs.declared.answers.Step.the-variants.{Is}
 use Rattle.cases.specs.declared.answers.Taken.{Taken}
 use Rattle.cases.specs.Case.{Case, emptyCase, countsOf, pathRule, pathsOfPath, pathsOfShape, references}
 use Rattle.cases.specs.Counts.{nodeLimit}
 use Rattle.cases.specs.Format.{formatOf, groupOf, widthOf, takenOf, numberAt, rowOf, operandsBy, pathRuleOf, shapeRuleOf, commandOf, commandAt}
-use Rattle.cases.specs.Faults.{inOrder, withinLimit, shapeNodesKnown, pathPathsEarlier, shapePathsEarlier, shapeLeastPositive}
+use Rattle.cases.specs.Faults.{inOrder, withinLimit, laid, edgeThere, shapeNodesKnown, pathPathsEarlier, shapePathsEarlier, shapeLeastPositive}
 use Rattle.cases.specs.Parts.{Plain, names}
 use Rattle.cases.specs.Reading.{judged, stepAt, noRefusal, Note, Progress, start, countsSoFar, add, shapesNamed, namedAt, Entry, Shape, Other, pass}
-use Rattle.cases.specs.Reading.{Found, Good, entryOf, roomFor, foundAt, unknownShape, afterEnd, Walked, refused, finish, isEnd, isEndEntry, stepped, walk, walked}
+use Rattle.cases.specs.Reading.{Found, Good, entryOf, roomFor, roomyFound, parkable, foundAt, unknownShape, afterEnd, Walked, refused, finish, isEnd, isEndEntry, stepped, walk, walked}
 use Rattle.cases.specs.Reading.{Outcome, expanded, outcome}
-use Rattle.cases.specs.Sound.{Sound, Limited}
+use Rattle.cases.specs.Sound.{Sound, Limited, Recorded}
 use Rattle.cases.specs.Encoding.{twoBytes, encodeEdge, encodePath, encodeShape, encodeTarget, encodeAll, encode, pathByte, shapeByte, OneByteEach, Readable}
 use Rattle.cases.proofs.Expansion.{ruled, expansion-passes, plain-length, plain-expansion}
 use Rattle.cases.proofs.Opening.{byte-blind}
 use Rattle.cases.proofs.Steps.{oneByte, EntryShows, walk-keeps}
 use Rattle.cases.proofs.Sound.{outcome-sound, outcome-limited}
+use Rattle.cases.proofs.Recording.{recordedAt, recorded-in, outcome-recorded}
 
 -- ---- Lists of bytes: a number below 65,536 is two, and each number below 256 is one
 
@@ -75,9 +78,15 @@ module _ (l : List ℕ) where
   unfolding found commandAt commandOf rowOf numberAt formatOf widthOf
   found-nodes n = simp number-back
 
-  found-edge : (e : Edge) → found (encodeEdge e l) ≡ record { command = EdgeCommand e; group = 2; rest = l }
+  found-coded : (code : ℕ) (p : Property) (a b : NodeNumber) → (code ≡ 0x02) ⊎ (code ≡ 0x03)
+      → found (encodeEdge (record { code = code; property = p; subject = a; object = b }) l)
+      ≡ record { command = EdgeCommand (record { code = code; property = p; subject = a; object = b }); group = 2; rest = l }
   unfolding found encodeEdge commandAt commandOf rowOf numberAt formatOf widthOf
-  found-edge e = simp number-back
+  found-coded code p a b (inl h) = rw h (simp number-back)
+  found-coded code p a b (inr h) = rw h (simp number-back)
+
+  found-edge : (e : Edge) → (e .code ≡ 0x02) ⊎ (e .code ≡ 0x03) → found (encodeEdge e l) ≡ record { command = EdgeCommand e; group = 2; rest = l }
+  found-edge e h = found-coded (e .code) (e .property) (e .subject) (e .object) h
 
   found-path : (r : PathRule) → found (encodePath r l) ≡ record { command = PathCommand r; group = 3; rest = l }
   unfolding found encodePath commandAt commandOf rowOf numberAt formatOf widthOf pathRuleOf
@@ -108,12 +117,12 @@ module _ (l : List ℕ) where
 
 -- ---- What is written for a command are bytes, since its operands are below the numbers of nodes, paths and shapes
 
-bytes-edge : (n : ℕ) (e : Edge) {l : List ℕ} → n ≤ 65536 → ltb (e .property .0) 256 ≡ true → ltb (e .subject .0) n && ltb (e .object .0) n ≡ true
+bytes-edge : (n : ℕ) (e : Edge) {l : List ℕ} → n ≤ 65536 → e .code < 256 → ltb (e .property .0) 256 ≡ true → ltb (e .subject .0) n && ltb (e .object .0) n ≡ true
     → Bytes l → Bytes (encodeEdge e l)
 unfolding encodeEdge
-bytes-edge n e h b k r =
+bytes-edge n e h c b k r =
     let a = and-eq-true-iff (ltb (e .subject .0) n) (ltb (e .object .0) n) .0 k in
-    bytes-more (omega arith) (bytes-more (omega (arith, tests)) (bytes-two (omega (arith, tests)) (bytes-two (omega (arith, tests)) r)))
+    bytes-more c (bytes-more (omega (arith, tests)) (bytes-two (omega (arith, tests)) (bytes-two (omega (arith, tests)) r)))
 
 bytes-path : (r : PathRule) (l : List ℕ) → pathByte r ≡ true → Bytes (pathsOfPath r ++ l) → Bytes (encodePath r l)
 unfolding encodePath pathsOfPath
@@ -184,6 +193,15 @@ room-held {p} {c} h (ShapeCommand r) w =
 room-held h (TargetCommand t) w = refl
 room-held h End w = refl
 
+-- the edge that it parks is there
+there-held : {p : Progress} {c : Case} → Holds p c → (command : Command) → edgeThere (c .edges) command ≡ true → parkable (p .case .edges) (entryOf command) ≡ true
+there-held h (Nodes n) t = refl
+there-held h (EdgeCommand e) t = rw (h .case-is) t
+there-held h (PathCommand r) t = refl
+there-held h (ShapeCommand r) t = refl
+there-held h (TargetCommand u) t = refl
+there-held h End t = refl
+
 holds-more : {p : Progress} {c : Case} (at g : ℕ) (command : Command) → Holds p c → Holds (pass p at g (entryOf command)) (add c command)
 unfolding pass add
 holds-more at g (Nodes n) h = record { case-is = rw (h .case-is); written-is = h .written-is }
@@ -210,6 +228,7 @@ record Fits (n g : ℕ) (c : Case) (command : Command) (write : List ℕ → Lis
   bytes : (l : List ℕ) → Bytes l → Bytes (write l)
   within : withinLimit (countsOf c) command ≡ true
   passes : (row : Row) (taken : Taken) → judged (countsOf c) command row taken ≡ Is command row taken
+  there : edgeThere (c .edges) command ≡ true
   named : all (shapesNamed command) (λ s. ltb s n) ≡ true
 
 -- the walk stands before these bytes, with fuel above them and behind the case c; the shapes named so far are below n
@@ -255,10 +274,10 @@ module _ {n g : ℕ} {c : Case} {command : Command} {write : List ℕ → List �
 
   found-fits : {fuel : ℕ} {s : List ℕ} {at : ℕ} {p : Progress} → Stands n c (write l) fuel s at p → inOrder (p .last) g ≡ true
       → foundAt p (drop at s) ≡ foundOf command g (write l)
-  unfolding foundAt
+  unfolding foundAt roomyFound
   found-fits {p} b order =
       rw (b .left, not-nested (getD (write l) 0 0) g group-is (order-some (p .last) g order))
-      (rw (step-fits b order) (rw (room-held (b .holds) command (m .within))))
+      (rw (step-fits b order) (rw (room-held (b .holds) command (m .within)) (rw (there-held (b .holds) command (m .there)))))
 
   walk-starts : {fuel : ℕ} {s : List ℕ} {at : ℕ} {p : Progress} → Stands n c (write l) fuel s at p → at < length s
   unfolding widthOf
@@ -312,7 +331,7 @@ unknownShape-known n (r ∷ l) h =
 
 end-fits : {n : ℕ} {c : Case} → Fits n 6 c End (λ l. 0xff ∷ l)
 unfolding judged shapesNamed all
-end-fits = record { is = found-end; bytes = λ l. bytes-more (omega arith); within = refl; passes = λ row taken. refl; named = refl }
+end-fits = record { is = found-end; bytes = λ l. bytes-more (omega arith); within = refl; passes = λ row taken. refl; there = refl; named = refl }
 
 end-reads : {c : Case} → Reads (length (c .shapes)) 6 c (0xff ∷ []) c
 unfolding stepped finish afterEnd widthOf formatOf all
@@ -375,7 +394,25 @@ module _ {A : Type 0} {n g next : ℕ} {write : A → List ℕ → List ℕ} {ma
 abbrev caseWith : ℕ → List Edge → List PathRule → List ShapeRule → List Target → Case
 caseWith n edges paths shapes targets = record { nodes = n; edges = edges; paths = paths; shapes = shapes; targets = targets }
 
-module _ (c : Case) (k : Sound c) (m : Limited c) (o : OneByteEach c) where
+-- an edge that is recorded: its code, and that 20 lets it through
+edge-code : (before : List Edge) (e : Edge) → recordedAt before e ≡ true → (e .code ≡ 0x02) ⊎ (e .code ≡ 0x03)
+unfolding recordedAt
+edge-code before e h =
+    ⊎-elim
+    (λ x. inl (eqb-true (e .code) 0x02 x))
+    (λ x. inr (eqb-true (e .code) 0x03 (and-eq-true-iff (eqb (e .code) 0x03) (laid before e) .0 x .0)))
+    (or-cases (eqb (e .code) 0x02) (eqb (e .code) 0x03 && laid before e) h)
+
+edge-there : (before : List Edge) (e : Edge) → recordedAt before e ≡ true → not (eqb (e .code) 0x03) || laid before e ≡ true
+unfolding recordedAt
+edge-there before e h =
+    let parks : Bool = eqb (e .code) 0x03 in
+    ⊎-elim
+    (λ x. or-left (not parks) (laid before e) (ap (λ n. not (eqb n 0x03)) (eqb-true (e .code) 0x02 x)))
+    (λ x. or-right (not parks) (laid before e) (and-eq-true-iff parks (laid before e) .0 x .1))
+    (or-cases (eqb (e .code) 0x02) (parks && laid before e) h)
+
+module _ (c : Case) (k : Sound c) (m : Limited c) (o : OneByteEach c) (q : Recorded c) where
   edge-kind : Kind (length (c .shapes)) 2 encodeEdge EdgeCommand (λ l. caseWith (c .nodes) l [] [] []) (c .edges)
   unfolding add countsOf judged shapesNamed all
   edge-kind = record {
@@ -384,11 +421,14 @@ module _ (c : Case) (k : Sound c) (m : Limited c) (o : OneByteEach c) where
     puts = λ prior e. refl;
     fits = λ prior e i.
         let ends = in-passes i (λ e. ltb (e .subject .0) (c .nodes) && ltb (e .object .0) (c .nodes)) (k .edges-known) in
+        let known : recordedAt prior e ≡ true = recorded-in [] prior e (i .later) (rw (i .is) (q .edges-recorded)) in
+        let code = edge-code prior e known in
         record {
-          is = λ l. found-edge l e;
-          bytes = λ l. bytes-edge (c .nodes) e (omega arith) (in-passes i (λ e. ltb (e .property .0) 256) (o .edges)) ends;
+          is = λ l. found-edge l e code;
+          bytes = λ l. bytes-edge (c .nodes) e (omega arith) (⊎-elim (λ x. omega arith) (λ x. omega arith) code) (in-passes i (λ e. ltb (e .property .0) 256) (o .edges)) ends;
           within = in-limit i (m .edges-limited);
           passes = λ row taken. rw (in-limit i (m .edges-limited), ends);
+          there = edge-there prior e known;
           named = refl;
         };
   }
@@ -407,6 +447,7 @@ module _ (c : Case) (k : Sound c) (m : Limited c) (o : OneByteEach c) where
           bytes = λ l b. bytes-path r l (in-passes i pathByte (o .paths)) (bytes-below n (pathsOfPath r) (omega (arith, in-room i)) earlier b);
           within = in-limit i (m .paths-limited);
           passes = λ row taken. rw (in-limit i (m .paths-limited), earlier);
+          there = refl;
           named = refl;
         };
   }
@@ -430,6 +471,7 @@ module _ (c : Case) (k : Sound c) (m : Limited c) (o : OneByteEach c) where
               (bytes-below (length (c .shapes)) (references r) (omega arith) named b));
           within = in-limit i (m .shapes-limited);
           passes = λ row taken. rw (in-limit i (m .shapes-limited), nodes, paths, in-passes i shapeLeastPositive (k .least-positive));
+          there = refl;
           named = named;
         };
   }
@@ -448,6 +490,7 @@ module _ (c : Case) (k : Sound c) (m : Limited c) (o : OneByteEach c) where
           bytes = λ l. bytes-target t (omega (arith, tests)) (omega (arith, tests));
           within = in-limit i (m .targets-limited);
           passes = λ row taken. rw (in-limit i (m .targets-limited), node);
+          there = refl;
           named = rw shape;
         };
   }
@@ -459,6 +502,7 @@ module _ (c : Case) (k : Sound c) (m : Limited c) (o : OneByteEach c) where
     bytes = λ l b. bytes-more (omega arith) (bytes-two (omega arith) b);
     within = le-leb (c .nodes) nodeLimit (m .nodes-limited);
     passes = λ row taken. rw (le-leb (c .nodes) nodeLimit (m .nodes-limited));
+    there = refl;
     named = refl;
   }
 
@@ -476,12 +520,12 @@ expanded-held : {p : Progress} {c : Case} → Holds p c → expanded p ≡ c
 unfolding expanded
 expanded-held {c = c} h = rw (h .case-is, h .written-is, plain-expansion (c .shapes))
 
-pub read-back : (c : Case) → Sound c → Limited c → OneByteEach c → _≡_ {A = Outcome} (outcome (encode c)) (record { refusal = noRefusal; case = c })
+pub read-back : (c : Case) → Sound c → Limited c → OneByteEach c → Recorded c → _≡_ {A = Outcome} (outcome (encode c)) (record { refusal = noRefusal; case = c })
 unfolding outcome walked start emptyCase all
-read-back c k m o =
+read-back c k m o q =
     let begun : Stands (length (c .shapes)) emptyCase (encode c) (suc (length (encode c))) (encode c) 0 start =
     record { left = refl; fuelled = omega arith; holds = record { case-is = refl; written-is = refl }; known = refl } in
-    let r = encode-reads c k m o .gives begun refl in
+    let r = encode-reads c k m o q .gives begun refl in
     rw (r .unrefused, expanded-held (r .holds))
 
 -- ---- Of bytes, reading gives properties and least numbers of one byte
@@ -529,11 +573,15 @@ outcome-one-byte s h =
     (suc (length s)) 0 start start-bytes
 
 -- ---- The sound cases that keep the limits and can be written in bytes are exactly those that reading gives
-pub sound-exactly : (c : Case) → (Sound c × Limited c × OneByteEach c) ↔ Readable c
+pub sound-exactly : (c : Case) → (Sound c × Limited c × OneByteEach c × Recorded c) ↔ Readable c
 sound-exactly c = (
-  λ h. record { bytes = encode c; are-bytes = encode-reads c (h .0) (h .1) (h .2) .are-bytes .each; reads = read-back c (h .0) (h .1) (h .2) },
+  λ h. record {
+    bytes = encode c;
+    are-bytes = encode-reads c (h .0) (h .1) (h .2) (h .3) .are-bytes .each;
+    reads = read-back c (h .0) (h .1) (h .2) (h .3);
+  },
   λ r.
       let s = r .bytes in
       let is : outcome s .case ≡ c = ap (λ o. o .case) (r .reads) in
-      rw (← is) (outcome-sound s, outcome-limited s, outcome-one-byte s (r .are-bytes)),
+      rw (← is) (outcome-sound s, outcome-limited s, outcome-one-byte s (r .are-bytes), outcome-recorded s),
 )

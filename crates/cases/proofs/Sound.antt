@@ -23,12 +23,12 @@ use Rattle.cases.specs.Case.{Case, emptyCase, pathRule}
 use Rattle.cases.specs.Counts.{nodeLimit, edgeLimit, pathLimit, shapeLimit, targetLimit}
 use Rattle.cases.specs.Faults.{inOrder, shapeNodesKnown, pathPathsEarlier, shapePathsEarlier, shapeLeastPositive}
 use Rattle.cases.specs.Parts.{Part, names, rules, freshRules, expansion}
-use Rattle.cases.specs.Reading.{Note, Progress, start, countsSoFar, add, shapesNamed, namedAt, Entry, Shape, Other, pass, roomFor}
+use Rattle.cases.specs.Reading.{Note, Progress, start, countsSoFar, add, shapesNamed, namedAt, Entry, Shape, Other, pass}
 use Rattle.cases.specs.Reading.{unknownShape, afterEnd, refused, finish, walked, expanded, outcome}
 use Rattle.cases.specs.Sound.{Sound, Limited}
 use Rattle.cases.proofs.Expansion.{ruled, expansion-passes, expansion-below, length-expansion}
 use Rattle.cases.proofs.Opening.{shapeSound, sound-blind}
-use Rattle.cases.proofs.Steps.{ofGroup, CommandShows, EntryShows, Shows, walk-keeps}
+use Rattle.cases.proofs.Steps.{ofGroup, CommandShows, EntryShows, Shows, walk-keeps, Admitted}
 
 -- ---- What a case keeps as it grows: refusals 4 to 7, list by list
 
@@ -231,20 +231,20 @@ command-kept p part g (TargetCommand t) k order h =
     record { nodes = o .nodes; edges = o .edges; paths = o .paths; shapes = o .shapes; few = o .few; targets = kept-more t (o .targets) (h .limit) (h .nodes) }
 command-kept p part g End k order h = k .kept
 
-entry-kept : (p : Progress) (part : List ℕ) (at g : ℕ) (e : Entry) → SoundSoFar p → inOrder (p .last) g ≡ true → EntryShows p part g e → roomFor p e ≡ true
+entry-kept : (p : Progress) (part : List ℕ) (at g : ℕ) (e : Entry) → SoundSoFar p → inOrder (p .last) g ≡ true → EntryShows p part g e → Admitted p e
     → CaseKept (pass p at g e .case) (pass p at g e .written)
 unfolding pass EntryShows
-entry-kept p part at g (Shape x) k order h room =
+entry-kept p part at g (Shape x) k order h admitted =
     let o = k .kept in
     record {
       nodes = o .nodes;
       edges = o .edges;
       paths = o .paths;
       shapes = all-snoc (p .written) x (ruled (shapeSound (p .case .nodes) (length (p .case .paths)))) (o .shapes) (h .sound);
-      few = leb-true (length (expansion (p .written ++ (x ∷ [])))) shapeLimit room;
+      few = leb-true (length (expansion (p .written ++ (x ∷ [])))) shapeLimit (admitted .room);
       targets = o .targets;
     }
-entry-kept p part at g (Other command) k order h room = command-kept p part g command k order h
+entry-kept p part at g (Other command) k order h admitted = command-kept p part g command k order h
 
 unshaped-pass : (p : Progress) (part : List ℕ) (at g : ℕ) (e : Entry) → SoundSoFar p → inOrder (p .last) g ≡ true → EntryShows p part g e → g ≤ 3
     → pass p at g e .written ≡ []
@@ -257,12 +257,12 @@ unfolding pass
 last-pass p at g (Shape x) = refl
 last-pass p at g (Other command) = refl
 
-pub sound-pass : (s : List ℕ) (at : ℕ) (p : Progress) (e : Entry) (taken : Taken) → Shows p (drop at s) e taken → roomFor p e ≡ true → SoundSoFar p
+pub sound-pass : (s : List ℕ) (at : ℕ) (p : Progress) (e : Entry) (taken : Taken) → Shows p (drop at s) e taken → Admitted p e → SoundSoFar p
     → SoundSoFar (pass p at (taken .group) e)
-sound-pass s at p e taken h room k =
+sound-pass s at p e taken h admitted k =
     let g = taken .group in
     record {
-      kept = entry-kept p (drop at s) at g e k (h .ordered) (h .entry) room;
+      kept = entry-kept p (drop at s) at g e k (h .ordered) (h .entry) admitted;
       named = λ n. named-more n p at g e (k .named);
       unbegun = λ z. absurd (omega (arith, h .known, last-pass p at g e));
       unshaped = λ b. unshaped-pass p (drop at s) at g e k (h .ordered) (h .entry) (omega (arith, last-pass p at g e));

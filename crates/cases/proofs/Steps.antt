@@ -2,7 +2,7 @@
 use Prim.Native.Nat.{ℕ, zero, suc, _+_, _≤_, _<_}
 use native.Mathlib.Omega.{arith}
 use mathlib.Core.Path.{_≡_, refl}
-use mathlib.Core.Bool.{Bool, true, false, cond}
+use mathlib.Core.Bool.{Bool, true, false, cond, _||_}
 use mathlib.Core.List.{List}
 use lib.ListN.{length, getD, drop}
 use lib.Dec.{eqb, ltb}
@@ -27,7 +27,7 @@ use Rattle.cases.specs.Format.{formatOf, groupOf, widthOf, takenOf, numb
 use Rattle.cases.specs.Format.{edgeOf, pathRuleOf, shapeRuleOf, targetOf, commandOf, commandAt}
 use Rattle.cases.specs.Parts.{Part, PartRead, PartFault, PartIs, partAt, depthLimit}
 use Rattle.cases.specs.Reading.{unless, judged, stepAt, Progress, countsSoFar, Entry, Shape, Other, pass, Found, Fault, Good}
-use Rattle.cases.specs.Reading.{entryOf, plainFound, partFound, nestedFound, roomFor, roomy, foundAt, Walked, refused, finish, isEndEntry, stepped, walk, isReadingNumber}
+use Rattle.cases.specs.Reading.{entryOf, plainFound, partFound, nestedFound, roomFor, roomy, roomyFound, parkable, laidFound, foundAt, Walked, refused, finish, isEndEntry, stepped, walk, isReadingNumber}
 use Rattle.cases.proofs.Expansion.{ruled}
 use Rattle.cases.proofs.Opening.{shapeSound, bytes-at, ReadShows, part-shows}
 
@@ -51,6 +51,15 @@ oneByte (ShapeCommand r) = shapeByte r
 oneByte (TargetCommand t) = true
 oneByte End = true
 
+-- an edge command is an 02 or a 03
+unfoldable pub edgeCoded : Command → Bool
+edgeCoded (Nodes n) = true
+edgeCoded (EdgeCommand e) = eqb (e .code) 0x02 || eqb (e .code) 0x03
+edgeCoded (PathCommand r) = true
+edgeCoded (ShapeCommand r) = true
+edgeCoded (TargetCommand t) = true
+edgeCoded End = true
+
 -- 2 and 4 to 7 of a command
 pub record CommandShows (p : Progress) (part : List ℕ) (g : ℕ) (command : Command) : Type 0 where
   pub grouped : ofGroup g command ≡ true
@@ -58,6 +67,7 @@ pub record CommandShows (p : Progress) (part : List ℕ) (g : ℕ) (command : Co
   pub nodes : nodesKnown (countsSoFar p) command ≡ true
   pub paths : pathsEarlier (countsSoFar p) command ≡ true
   pub least : leastPositive command ≡ true
+  pub coded : edgeCoded command ≡ true
   pub bytes : all part (λ b. ltb b 256) ≡ true → oneByte command ≡ true
 
 -- of a shape, as a part
@@ -156,22 +166,35 @@ commandOf-group g r =
     choose : (n : ℕ) (c o : Command) → (eqb g n ≡ true → ofGroup g c ≡ true) → ofGroup g o ≡ true → ofGroup g (cond (eqb g n) c o) ≡ true
     choose n c o f e = by-test (eqb g n) (λ h. rw h (f h)) (λ h. rw h e)
 
--- so it is for the command byte b if its group and widths are f
-record OneByte (s : List ℕ) (b : ℕ) (f : Format) : Type 0 where
-  one : oneByte (commandOf (f .0) (b, numberAt s 1 (f .1), numberAt s (1 + f .1) (f .2), numberAt s (1 + f .1 + f .2) (f .3))) ≡ true
+-- the command of byte b passes a test if its group and widths are f
+record Passes (t : Command → Bool) (s : List ℕ) (b : ℕ) (f : Format) : Type 0 where
+  passes : t (commandOf (f .0) (b, numberAt s 1 (f .1), numberAt s (1 + f .1) (f .2), numberAt s (1 + f .1 + f .2) (f .3))) ≡ true
 
-module _ (s : List ℕ) (b : ℕ) where
-  choose-byte : (n : ℕ) (x y : Format) → OneByte s n x → OneByte s b y → OneByte s b (cond (eqb b n) x y)
+-- choose-byte goes through the bytes of the format, this-byte ends it
+module _ (t : Command → Bool) (s : List ℕ) (b : ℕ) where
+  choose-byte : (n : ℕ) (x y : Format) → Passes t s n x → Passes t s b y → Passes t s b (cond (eqb b n) x y)
   choose-byte n x y h k = by-test (eqb b n) (λ e. rw e (rw (eqb-true b n e) h)) (λ e. rw e k)
 
-  -- choose goes through the bytes of the format; a property or a least number is the first operand of each
-  format-one-byte : ltb (getD s 1 0) 256 ≡ true → OneByte s b (formatOf b)
+  this-byte : (g x y z : ℕ) → t (commandOf g (b, numberAt s 1 x, numberAt s (1 + x) y, numberAt s (1 + x + y) z)) ≡ true → Passes t s b (g, x, y, z)
+  this-byte g x y z e = record { passes = e }
+
+module _ (s : List ℕ) (b : ℕ) where
+  -- a property or a least number is the first operand of each
+  format-one-byte : ltb (getD s 1 0) 256 ≡ true → Passes oneByte s b (formatOf b)
   unfolding formatOf commandOf pathRuleOf shapeRuleOf numberAt oneByte
-  format-one-byte h = search choose-byte depth 64
+  format-one-byte h = search (choose-byte, this-byte) depth 64
+
+  format-coded : Passes edgeCoded s b (formatOf b)
+  unfolding formatOf commandOf edgeCoded
+  format-coded = search (choose-byte, this-byte) depth 64
 
 command-one-byte : (part : List ℕ) → all part (λ b. ltb b 256) ≡ true → oneByte (commandAt part) ≡ true
 unfolding commandAt rowOf
-command-one-byte part h = format-one-byte part (getD part 0 0) (bytes-at part 1 h) .one
+command-one-byte part h = format-one-byte part (getD part 0 0) (bytes-at part 1 h) .passes
+
+command-coded : (part : List ℕ) → edgeCoded (commandAt part) ≡ true
+unfolding commandAt rowOf
+command-coded part = format-coded part (getD part 0 0) .passes
 
 -- what was shown of a command is what is shown of what it adds
 entry-shows : (p : Progress) (part : List ℕ) (g : ℕ) (command : Command) → CommandShows p part g command → EntryShows p part g (entryOf command)
@@ -201,6 +224,7 @@ plain-shows p part (Is command row taken) h =
             nodes = h .nodes-known;
             paths = h .paths-earlier;
             least = h .least-positive;
+            coded = rw (h .command-is) (command-coded part);
             bytes = λ b. rw (h .command-is) (command-one-byte part b);
           });
     })
@@ -232,31 +256,38 @@ nested-shows p part =
     (λ limit. rw limit refl)))
     (λ ordered. rw ordered refl)
 
--- ---- Any command, with 19
+-- ---- Any command, with 19 and 20
+
+pub record Admitted (p : Progress) (e : Entry) : Type 0 where
+  pub room : roomFor p e ≡ true
+  pub there : parkable (p .case .edges) e ≡ true
 
 unfoldable pub GoodShows : Progress → List ℕ → Found → Type 0
 GoodShows p part (Fault n) = isReadingNumber n ≡ true
-GoodShows p part (Good e taken) = Shows p part e taken × (roomFor p e ≡ true)
+GoodShows p part (Good e taken) = Shows p part e taken × Admitted p e
 
-roomy-shows : (p : Progress) (part : List ℕ) (f : Found) → FoundShows p part f → GoodShows p part (roomy p f)
+admitted-shows : (p : Progress) (part : List ℕ) (f : Found) → FoundShows p part f → GoodShows p part (laidFound (p .case .edges) (roomy p f))
 unfolding FoundShows GoodShows
-roomy-shows p part (Fault n) h = h
-roomy-shows p part (Good e taken) h = by-test (roomFor p e) (λ r. rw r (h, r)) (λ r. rw r refl)
+admitted-shows p part (Fault n) h = h
+admitted-shows p part (Good e taken) h =
+    by-test (roomFor p e)
+    (λ r. by-test (parkable (p .case .edges) e) (λ l. rw (r, l) (h, record { room = r; there = l })) (λ l. rw (r, l) refl))
+    (λ r. rw r refl)
 
 pub found-shows : (p : Progress) (part : List ℕ) → GoodShows p part (foundAt p part)
-unfolding foundAt
+unfolding foundAt roomyFound
 found-shows p part =
     let step = stepAt (p .last) (countsSoFar p) part in
     by-test (eqb (getD part 0 0) 0x28)
-    (λ e. rw e (roomy-shows p part (nestedFound p part) (nested-shows p part)))
-    (λ e. rw e (roomy-shows p part (plainFound step) (plain-shows p part step (step-shows (p .last) (countsSoFar p) part))))
+    (λ e. rw e (admitted-shows p part (nestedFound p part) (nested-shows p part)))
+    (λ e. rw e (admitted-shows p part (plainFound step) (plain-shows p part step (step-shows (p .last) (countsSoFar p) part))))
 
 -- ---- The walk: what every command keeps holds at its end
 
 module _ (P : Progress → Type 0) (Q : Walked → Type 0) (s : List ℕ)
     (refuses : (n at : ℕ) → isReadingNumber n ≡ true → Q (refused n at))
     (ends : (end : ℕ) (p : Progress) → P p → Q (finish s end p))
-    (more : (at : ℕ) (p : Progress) (e : Entry) (taken : Taken) → Shows p (drop at s) e taken → roomFor p e ≡ true → P p → P (pass p at (taken .group) e))
+    (more : (at : ℕ) (p : Progress) (e : Entry) (taken : Taken) → Shows p (drop at s) e taken → Admitted p e → P p → P (pass p at (taken .group) e))
   where
     step-keeps : (onward : ℕ → Progress → Walked) → ((at : ℕ) (p : Progress) → P p → Q (onward at p)) → (at : ℕ) (p : Progress) (f : Found)
         → GoodShows p (drop at s) f → P p → Q (stepped onward s at p f)

@@ -1,7 +1,9 @@
 -- A case: graph, paths, shapes, targets, and what its rules name. Document 01, "A case, command by command". Assumes nothing.
 use Prim.Native.Nat.{ℕ}
+use mathlib.Core.Bool.{Bool, _&&_}
 use mathlib.Core.List.{List, [], _∷_}
 use lib.ListN.{length, getD}
+use lib.Dec.{eqb}
 use Rattle.cases.specs.declared.command.Edge.{Edge}
 use Rattle.cases.specs.declared.command.Target.{Target}
 use Rattle.cases.specs.declared.command.PathRule.{PathRule}
@@ -10,7 +12,7 @@ use Rattle.cases.specs.declared.command.ShapeRule.{ShapeRule}
 use Rattle.cases.specs.declared.command.ShapeRule.the-variants.{Top, Node, And, Or, Not, Same, All, AtLeast}
 use Rattle.cases.specs.declared.counts.Counts.{Counts}
 
--- nodes, paths and shapes are numbered from 0 as they come; repeated edges and targets are kept
+-- nodes, paths and shapes are numbered from 0 as they come; repeated edges and targets are kept, and so are the commands that park an edge
 pub record Case : Type 0 where
   pub nodes : ℕ
   pub edges : List Edge
@@ -31,6 +33,10 @@ countsOf c =
       shapes = length (c .shapes);
       targets = length (c .targets);
     }
+
+-- an edge command of this byte, 02 or 03, with these operands
+unfoldable pub edgeIs : ℕ → ℕ → ℕ → ℕ → Edge → Bool
+edgeIs code p a b e = eqb (e .code) code && (eqb (e .property .0) p && (eqb (e .subject .0) a && eqb (e .object .0) b))
 
 -- the rule of the path with a number; a number not in the case has no fillers
 unfoldable pub pathRule : Case → ℕ → PathRule

@@ -20,7 +20,7 @@ twoBytes x l = x % 256 ∷ x / 256 ∷ l
 
 -- each command, before the bytes that follow it
 unfoldable pub encodeEdge : Edge → List ℕ → List ℕ
-encodeEdge e l = 0x02 ∷ e .property .0 ∷ twoBytes (e .subject .0) (twoBytes (e .object .0) l)
+encodeEdge e l = e .code ∷ e .property .0 ∷ twoBytes (e .subject .0) (twoBytes (e .object .0) l)
 
 unfoldable pub encodePath : PathRule → List ℕ → List ℕ
 encodePath (Forward p) l = 0x10 ∷ p .0 ∷ l

@@ -1,17 +1,19 @@
--- What is at fault with a command, by the counts of what has been read before it: the tests behind refusals 2 and 4 to 7.
--- Document 01, "A case, command by command" (limits, order) and "Refusals", Reading. Assumes nothing.
+-- What is at fault with a command, by what has been read before it: the tests behind refusals 2, 4 to 7 and 20.
+-- Document 01, "A case, command by command" (limits, order) and "Refusals", Reading; document 02, point 4. Assumes nothing.
 use Prim.Native.Nat.{ℕ}
-use mathlib.Core.Bool.{Bool, true, false, cond, _&&_}
+use mathlib.Core.Bool.{Bool, true, false, cond, not, _&&_, _||_}
+use mathlib.Core.List.{List}
 use lib.Dec.{eqb, leb, ltb}
-use Rattle.fixpoint.specs.Lists.{all}
+use Rattle.fixpoint.specs.Lists.{all, any}
 use Rattle.cases.specs.declared.command.Command.{Command}
 use Rattle.cases.specs.declared.command.Command.the-variants.{Nodes, End}
 use Rattle.cases.specs.declared.command.Command.the-variants.{Edge as EdgeCommand, Path as PathCommand, Shape as ShapeCommand, Target as TargetCommand}
+use Rattle.cases.specs.declared.command.Edge.{Edge}
 use Rattle.cases.specs.declared.command.PathRule.{PathRule}
 use Rattle.cases.specs.declared.command.ShapeRule.{ShapeRule}
 use Rattle.cases.specs.declared.command.ShapeRule.the-variants.{Top, Node, And, Or, Not, Same, All, AtLeast}
 use Rattle.cases.specs.declared.counts.Counts.{Counts}
-use Rattle.cases.specs.Case.{pathsOfPath, pathsOfShape}
+use Rattle.cases.specs.Case.{edgeIs, pathsOfPath, pathsOfShape}
 use Rattle.cases.specs.Counts.{nodeLimit, edgeLimit, pathLimit, shapeLimit, targetLimit}
 
 -- one 01 first, then edges, paths, shapes, targets, one FF last: last is the group of the command before, 0 at the start
@@ -79,3 +81,15 @@ leastPositive (PathCommand r) = true
 leastPositive (ShapeCommand r) = shapeLeastPositive r
 leastPositive (TargetCommand t) = true
 leastPositive End = true
+
+-- 20: the edge that a 03 parks stands earlier, in an 02 with the same operands, parked or not
+unfoldable pub laid : List Edge → Edge → Bool
+laid edges e = any edges (edgeIs 0x02 (e .property .0) (e .subject .0) (e .object .0))
+
+abbrev pub edgeThere : List Edge → Command → Bool
+edgeThere edges (Nodes n) = true
+edgeThere edges (EdgeCommand e) = not (eqb (e .code) 0x03) || laid edges e
+edgeThere edges (PathCommand r) = true
+edgeThere edges (ShapeCommand r) = true
+edgeThere edges (TargetCommand t) = true
+edgeThere edges End = true

@@ -1,5 +1,5 @@
 -- The format: command bytes, operand widths, and the command that a part of the input starts with.
--- Document 01, "A case, command by command". Assumes nothing.
+-- Document 01, "A case, command by command"; document 02, point 4. Assumes nothing.
 use Prim.Native.Nat.{ℕ, _+_, _*_}
 use mathlib.Core.Bool.{Bool, cond}
 use mathlib.Core.List.{List}
@@ -26,6 +26,7 @@ unfoldable pub formatOf : ℕ → Format
 formatOf b =
     cond (eqb b 0x01) (1, 2, 0, 0)
     (cond (eqb b 0x02) (2, 1, 2, 2)
+    (cond (eqb b 0x03) (2, 1, 2, 2)
     (cond (eqb b 0x10) (3, 1, 0, 0)
     (cond (eqb b 0x11) (3, 1, 0, 0)
     (cond (eqb b 0x12) (3, 1, 1, 0)
@@ -41,7 +42,7 @@ formatOf b =
     (cond (eqb b 0x27) (4, 1, 1, 1)
     (cond (eqb b 0x30) (5, 1, 2, 0)
     (cond (eqb b 0xff) (6, 0, 0, 0)
-    (0, 0, 0, 0)))))))))))))))))
+    (0, 0, 0, 0))))))))))))))))))
 
 abbrev pub groupOf : ℕ → ℕ
 groupOf b = formatOf b .0
@@ -91,7 +92,7 @@ missing Cut = 3
 
 -- the meaning of a row, group by group
 abbrev pub edgeOf : Row → Edge
-edgeOf r = record { property = record { 0 = r .1 }; subject = record { 0 = r .2 }; object = record { 0 = r .3 } }
+edgeOf r = record { code = r .0; property = record { 0 = r .1 }; subject = record { 0 = r .2 }; object = record { 0 = r .3 } }
 
 unfoldable pub pathRuleOf : Row → PathRule
 pathRuleOf r =

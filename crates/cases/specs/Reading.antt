@@ -1,5 +1,5 @@
 -- Reading: what is at fault with a command, the walk over the input, and what reading answers.
--- Document 01, "A case, command by command" (limits, order) and "Refusals", Reading; document 02, point 2. Assumes nothing.
+-- Document 01, "A case, command by command" (limits, order) and "Refusals", Reading; document 02, points 2 and 4. Assumes nothing.
 use Prim.Native.Nat.{ℕ, zero, suc, _+_}
 use mathlib.Core.Bool.{Bool, true, false, cond, _||_}
 use mathlib.Core.List.{List, [], _∷_, _++_, map}
@@ -8,6 +8,7 @@ use lib.Dec.{eqb, leb, ltb}
 use Rattle.cases.specs.declared.command.Command.{Command}
 use Rattle.cases.specs.declared.command.Command.the-variants.{Nodes, End}
 use Rattle.cases.specs.declared.command.Command.the-variants.{Edge as EdgeCommand, Path as PathCommand, Shape as ShapeCommand, Target as TargetCommand}
+use Rattle.cases.specs.declared.command.Edge.{Edge}
 use Rattle.cases.specs.declared.command.Row.{Row}
 use Rattle.cases.specs.declared.answers.Reading.{Reading}
 use Rattle.cases.specs.declared.answers.Refusal.{Refusal}
@@ -17,7 +18,7 @@ use Rattle.cases.specs.declared.answers.Taken.{Taken}
 use Rattle.cases.specs.declared.counts.Counts.{Counts}
 use Rattle.cases.specs.Case.{Case, emptyCase, countsOf, references}
 use Rattle.cases.specs.Counts.{shapeLimit}
-use Rattle.cases.specs.Faults.{inOrder, withinLimit, nodesKnown, pathsEarlier, leastPositive}
+use Rattle.cases.specs.Faults.{inOrder, withinLimit, nodesKnown, pathsEarlier, leastPositive, edgeThere}
 use Rattle.cases.specs.Format.{groupOf, takenOf, rowOf, operandsOf, missing, commandAt}
 use Rattle.cases.specs.Parts.{Part, Plain, PartRead, PartFault, PartIs, partAt, depthLimit, names, expansion}
 
@@ -116,7 +117,7 @@ pass p at group (Shape x) =
 pass p at group (Other command) =
     record { last = group; case = add (p .case) command; written = p .written; named = p .named ++ namedAt at (shapesNamed command) }
 
--- ---- What is found where a command should start: 18 and 19 too
+-- ---- What is found where a command should start: 18, 19 and 20 too
 
 -- the number of a refusal, or what the command adds and what it takes of the input
 pub data Found : Type 0 where
@@ -160,8 +161,20 @@ abbrev pub roomy : Progress → Found → Found
 roomy p (Fault n) = Fault n
 roomy p (Good e taken) = foundUnless (roomFor p e) 19 (Good e taken)
 
+unfoldable pub roomyFound : Progress → List ℕ → Found
+roomyFound p s = roomy p (cond (eqb (getD s 0 0) 0x28) (nestedFound p s) (plainFound (stepAt (p .last) (countsSoFar p) s)))
+
+-- "20 no such edge earlier, after 5 in the same command"
+abbrev pub parkable : List Edge → Entry → Bool
+parkable edges (Shape x) = true
+parkable edges (Other command) = edgeThere edges command
+
+abbrev pub laidFound : List Edge → Found → Found
+laidFound edges (Fault n) = Fault n
+laidFound edges (Good e taken) = foundUnless (parkable edges e) 20 (Good e taken)
+
 unfoldable pub foundAt : Progress → List ℕ → Found
-foundAt p s = roomy p (cond (eqb (getD s 0 0) 0x28) (nestedFound p s) (plainFound (stepAt (p .last) (countsSoFar p) s)))
+foundAt p s = laidFound (p .case .edges) (roomyFound p s)
 
 -- ---- The walk over the input
 
@@ -242,9 +255,9 @@ expanded p =
 unfoldable pub outcome : List ℕ → Outcome
 outcome s = record { refusal = walked s .refusal; case = expanded (walked s .read) }
 
--- reading's numbers: 0 for none, 1 to 9, 18 and 19
+-- reading's numbers: 0 for none, 1 to 9, 18, 19 and 20
 abbrev pub isReadingNumber : ℕ → Bool
-isReadingNumber n = leb n 9 || (eqb n 18 || eqb n 19)
+isReadingNumber n = leb n 9 || (eqb n 18 || (eqb n 19 || eqb n 20))
 
 -- ---- What reading answers: number, place, and the counts, all 0 on a refusal
 

@@ -1,14 +1,16 @@
--- What holds of every case that reading gives: operands name what is there, and the limits are kept. Document 01's refusals 4 to 7 and 9,
--- read as facts about the case. Assumes nothing.
+-- What holds of every case that reading gives: operands name what is there, and the limits are kept. Document 01's refusals 4 to 7 and 9
+-- and document 02's 20, read as facts about the case. Assumes nothing.
 use Prim.Native.Nat.{ℕ, _≤_, _<_}
 use mathlib.Core.Path.{_≡_}
-use mathlib.Core.Bool.{true, _&&_}
+use mathlib.Core.Bool.{Bool, true, _&&_, _||_}
+use mathlib.Core.List.{List, [], _∷_, _++_}
 use lib.ListN.{length}
-use lib.Dec.{ltb}
+use lib.Dec.{eqb, ltb}
 use Rattle.fixpoint.specs.Lists.{all}
 use Rattle.cases.specs.Case.{Case, references, pathRule}
 use Rattle.cases.specs.Counts.{nodeLimit, edgeLimit, pathLimit, shapeLimit, targetLimit}
-use Rattle.cases.specs.Faults.{shapeNodesKnown, pathPathsEarlier, shapePathsEarlier, shapeLeastPositive}
+use Rattle.cases.specs.declared.command.Edge.{Edge}
+use Rattle.cases.specs.Faults.{laid, shapeNodesKnown, pathPathsEarlier, shapePathsEarlier, shapeLeastPositive}
 
 -- operands name what is there
 pub record Sound (c : Case) : Type 0 where
@@ -32,3 +34,11 @@ pub record Limited (c : Case) : Type 0 where
   pub paths-limited : length (c .paths) ≤ pathLimit
   pub shapes-limited : length (c .shapes) ≤ shapeLimit
   pub targets-limited : length (c .targets) ≤ targetLimit
+
+-- 20: an edge is laid by an 02, or parked by a 03 behind an 02 of it; the first list are the edges before
+unfoldable pub recorded : List Edge → List Edge → Bool
+recorded before [] = true
+recorded before (e ∷ l) = (eqb (e .code) 0x02 || (eqb (e .code) 0x03 && laid before e)) && recorded (before ++ (e ∷ [])) l
+
+pub record Recorded (c : Case) : Type 0 where
+  pub edges-recorded : recorded [] (c .edges) ≡ true

@@ -6,7 +6,14 @@ use crate::numbers::Shape;
 ghost use mathlib.Core.Path.{_≡_};
 ghost use Rattle.cases.specs.Format.{edgeOf, pathRuleOf, shapeRuleOf, targetOf, commandOf};
 
+// The codes of edge commands: 02 lays an edge, 03 parks it.
+pub const LAID: usize = 0x02;
+
+pub const PARKED: usize = 0x03;
+
+// An edge command, with its byte.
 pub struct Edge {
+    pub code: usize,
     pub property: Property,
     pub subject: Node,
     pub object: Node,
@@ -52,6 +59,7 @@ pub fn edge_of(row: Row) -> Edge
     ensures { λ r. ⌜ r ≡ edgeOf row ⌝ }
 {
     Edge {
+        code: row.0 as usize,
         property: Property(row.1 as usize),
         subject: Node(row.2 as usize),
         object: Node(row.3 as usize),

@@ -16,6 +16,7 @@ pub fn format_of(code: u8) -> Format
     match code {
         0x01 => Format(1, 2, 0, 0),
         0x02 => Format(2, 1, 2, 2),
+        0x03 => Format(2, 1, 2, 2),
         0x10 => Format(3, 1, 0, 0),
         0x11 => Format(3, 1, 0, 0),
         0x12 => Format(3, 1, 1, 0),

@@ -94,6 +94,14 @@ fn solve_nested() {
     );
 }
 
+// An edge that is laid, parked and laid again: no neighbour on, none back.
+fn solve_parked() {
+    solve_small(
+        b"parked relay",
+        b"\x01\x02\x00\x02\x00\x00\x00\x01\x00\x03\x00\x00\x00\x01\x00\x02\x00\x00\x00\x01\x00\x10\x00\x11\x00\x20\x27\x01\x00\x00\x27\x01\x01\x00\x30\x01\x00\x00\x30\x02\x01\x00\xff",
+    );
+}
+
 // Each table one byte short, with the later ones short too.
 fn solve_short(ring: &[u8]) {
     let mut values = [0u8; 20];
@@ -169,6 +177,7 @@ fn main() {
     solve_others(clash);
     solve_unlinked();
     solve_nested();
+    solve_parked();
     solve_short(ring);
     check_proposals(ring, clash);
     check_unfit(clash);

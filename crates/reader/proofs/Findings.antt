@@ -3,28 +3,31 @@ use Prim.Native.Nat.{ℕ, _+_, _≤_, _<_}
 use native.Mathlib.Omega.{arith}
 use mathlib.Core.Path.{_≡_, refl, sym, ap, _∙_}
 use mathlib.Core.Logic.{⊎-elim}
-use mathlib.Core.Bool.{Bool, true, false, not, _&&_, false≢true}
-use mathlib.Core.List.{List, [], _∷_, _++_, append-nil}
+use mathlib.Core.Bool.{Bool, true, false, cond, not, _&&_, false≢true}
+use mathlib.Core.List.{List, [], _∷_, _++_, append-nil, map}
 use lib.ListN.{length, getD, length-append}
 use lib.Dec.{eqb, leb}
 use borrow.Author.Tests.{not-true, not-false, eq-eqb, ne-eqb, lt-ltb, le-ltb, le-leb, lt-leb}
-use Rattle.fixpoint.proofs.Lists.{lt-cases, by-test}
+use Rattle.fixpoint.specs.Lists.{upTo}
+use Rattle.fixpoint.proofs.Lists.{lt-cases}
 use Rattle.cases.specs.declared.answers.Step.{Step}
 use Rattle.cases.specs.declared.answers.Step.the-variants.{Is, Refused}
 use Rattle.cases.specs.declared.answers.Taken.{Taken}
 use Rattle.cases.specs.declared.command.Command.{Command}
 use Rattle.cases.specs.declared.command.Command.the-variants.{Nodes, End}
 use Rattle.cases.specs.declared.command.Command.the-variants.{Edge as EdgeCommand, Path as PathCommand, Shape as ShapeCommand, Target as TargetCommand}
+use Rattle.cases.specs.declared.command.Edge.{Edge}
 use Rattle.cases.specs.declared.command.Row.{Row}
 use Rattle.cases.specs.declared.command.ShapeRule.{ShapeRule}
 use Rattle.cases.specs.declared.command.ShapeRule.the-variants.{Top, Node, And, Or, Not, Same, All, AtLeast}
 use Rattle.cases.specs.Case.{references}
 use Rattle.cases.specs.Counts.{shapeLimit}
-use Rattle.cases.specs.Faults.{inOrder}
+use Rattle.cases.specs.Faults.{inOrder, edgeThere}
 use Rattle.cases.specs.Format.{groupOf, rowOf, shapeRuleOf, commandAt}
+use Rattle.cases.specs.Rows.{edgeIn}
 use Rattle.cases.specs.Parts.{Named, PartRead, names, rule, inside, expansion}
 use Rattle.cases.specs.Reading.{numberOf, stepAt, Progress, countsSoFar, shapesNamed, Entry, Shape, Other, Found, Fault, entryOf, plainFound, partFound}
-use Rattle.cases.specs.Reading.{nestedFound, roomFor, roomy, foundAt}
+use Rattle.cases.specs.Reading.{nestedFound, roomFor, roomy, roomyFound, parkable, laidFound}
 use Rattle.cases.proofs.Expansion.{length-inside, length-expansion, freshCount-more}
 use Rattle.cases.proofs.Formats.{passed, failed}
 use Rattle.cases.proofs.Steps.{StepShows, step-shows}
@@ -35,8 +38,8 @@ use Rattle.parts.specs.Tables.{rulesIn, NoteRoom, Noted}
 use Rattle.parts.proofs.Stores.{length-rulesIn}
 use Rattle.reader.specs.declared.finding.Finding.{Finding}
 use Rattle.reader.specs.declared.finding.Reached.{Reached}
-use Rattle.reader.specs.Finding.{refusedFinding, partFinding, isBeyond, withRoom, PlainRoom, FindRoom, Stands, entryCommand, entryInside, entryNames, isShape, isShapeEntry}
-use Rattle.reader.specs.Finding.{StepIs, FindingIs, PlainAs, NestedAs, FoundAs}
+use Rattle.reader.specs.Finding.{refusedFinding, partFinding, isBeyond, withRoom, isUnlaid, withEdge, PlainRoom, FindRoom, Stands, entryCommand, entryInside, entryNames, isShape, isShapeEntry}
+use Rattle.reader.specs.Finding.{StepIs, FindingIs, PlainAs, NestedAs, RoomyAs, FoundAs}
 use Rattle.reader.specs.Storing.{says}
 use Rattle.reader.proofs.Stores.{says-command}
 
@@ -239,19 +242,63 @@ module _ (found : Progress → Found) (at : ℕ) (reached : Reached) (fresh name
         }),
       )
 
+-- a finding judged by one test more: its refusal, or as it was
+judged-is : (found found′ : Progress → Found) {at : ℕ} {reached : Reached} {fresh named : List ℕ} {r : Finding} {fresh′ named′ : List ℕ} (b : Bool) {n : ℕ}
+    → reached .fresh ≤ shapeLimit
+    → ((p : Progress) → Stands p reached → StepIs (found p) at reached fresh named (r .step) (r .fresh) (r .noted) fresh′ named′
+    → (b ≡ true → found′ p ≡ Fault n) × (b ≡ false → StepIs (found′ p) at reached fresh named (r .step) (r .fresh) (r .noted) fresh′ named′))
+    → FindingIs found at reached fresh named r fresh′ named′ → FindingIs found′ at reached fresh named (cond b (refusedFinding n reached) r) fresh′ named′
+judged-is found found′ true few k f = refused-is few (f .fresh-long) (f .named-long) (λ p h. k p h (f .is p h) .0 refl)
+judged-is found found′ false few k f = record {
+  few = f .few;
+  fresh-long = f .fresh-long;
+  named-long = f .named-long;
+  is = λ p h. k p h (f .is p h) .1 refl;
+}
+
 with-room-is : (found : Progress → Found) {at : ℕ} {reached : Reached} {fresh named : List ℕ} {r : Finding} {fresh′ named′ : List ℕ} → reached .fresh ≤ shapeLimit
     → FindingIs found at reached fresh named r fresh′ named′ → FindingIs (λ p. roomy p (found p)) at reached fresh named (withRoom r reached) fresh′ named′
-unfolding withRoom StepIs
+unfolding withRoom
 with-room-is found {at} {reached} {fresh} {named} {r} {fresh′} {named′} few f =
-    by-test (isBeyond (r .step) (reached .counts .shapes + r .fresh))
-    (λ b. rw b (refused-is few (f .fresh-long) (f .named-long)
-    (λ p h. roomy-is found at reached fresh named fresh′ named′ (r .fresh) (r .noted) (r .step) p h (f .is p h) .0 b)))
-    (λ b. rw b (record {
-      few = f .few;
-      fresh-long = f .fresh-long;
-      named-long = f .named-long;
-      is = λ p h. roomy-is found at reached fresh named fresh′ named′ (r .fresh) (r .noted) (r .step) p h (f .is p h) .1 b;
-    }))
+    judged-is found (λ p. roomy p (found p)) (isBeyond (r .step) (reached .counts .shapes + r .fresh)) few
+    (roomy-is found at reached fresh named fresh′ named′ (r .fresh) (r .noted) (r .step)) f
+
+-- a finding judged by 20
+parkable-is : (edges : List Edge) (n : ℕ) (e : Entry) → edgeThere edges (entryCommand n e) ≡ parkable edges e
+parkable-is edges n (Shape x) = refl
+parkable-is edges n (Other command) = refl
+
+module _ (found : Progress → Found) (edges : List Edge) (at : ℕ) (reached : Reached) (fresh named fresh′ named′ : List ℕ) (n m : ℕ) where
+  laid-is : (step : Step) (p : Progress) → Stands p reached → StepIs (found p) at reached fresh named step n m fresh′ named′
+      → (isUnlaid step edges ≡ true → laidFound edges (found p) ≡ Fault 20)
+      × (isUnlaid step edges ≡ false → StepIs (laidFound edges (found p)) at reached fresh named step n m fresh′ named′)
+  unfolding StepIs
+  laid-is (Refused number) p h i = (λ b. absurd (false≢true b), λ b. rw i)
+  laid-is (Is command row taken) p h i =
+      let r : edgeThere edges command ≡ parkable edges (i .entry) = rw (i .command-is) (parkable-is edges (256 + reached .fresh) (i .entry)) in (
+        λ b. rw (i .is) (rw (sym r ∙ not-true (edgeThere edges command) b)),
+        λ b. rw (i .is, sym r ∙ not-false (edgeThere edges command) b) (record {
+          entry = i .entry;
+          is = refl;
+          command-is = i .command-is;
+          shaped = i .shaped;
+          said = i .said;
+          rules = i .rules;
+          notes = i .notes;
+        }),
+      )
+
+pub found-laid : {part : List ℕ} {at : ℕ} {reached : Reached} {rows fresh named : List ℕ} {r r′ : Finding} {fresh′ named′ : List ℕ} → FindRoom part reached fresh named
+    → RoomyAs part at reached fresh named r fresh′ named′ → r′ ≡ withEdge r reached (map (edgeIn rows) (upTo (reached .counts .edges)))
+    → FoundAs part at reached rows fresh named r′ fresh′ named′
+unfolding withEdge
+found-laid {part} {at} {reached} {rows} {fresh} {named} {r} {fresh′ = fresh′} {named′} room f z =
+    let edges = map (edgeIn rows) (upTo (reached .counts .edges)) in
+    rw z (record {
+      found =
+          judged-is (λ p. roomyFound p part) (λ p. laidFound edges (roomyFound p part)) (isUnlaid (r .step) edges) (omega (arith, room .few))
+          (laid-is (λ p. roomyFound p part) edges at reached fresh named fresh′ named′ (r .fresh) (r .noted) (r .step)) (f .found);
+    })
 
 module _ {part : List ℕ} {at : ℕ} {reached : Reached} {fresh named : List ℕ} (room : FindRoom part reached fresh named) where
   pub nested-few : {r : Finding} {fresh′ named′ : List ℕ} → NestedAs part at reached fresh named r fresh′ named′ → reached .counts .shapes + r .fresh ≤ 1000
@@ -261,15 +308,15 @@ module _ {part : List ℕ} {at : ℕ} {reached : Reached} {fresh named : List �
   plain-few f = omega (arith, room .few, f .found (omega (arith, room .few)) fresh .few)
 
   pub found-nested : getD part 0 0 ≡ 0x28 → {r r′ : Finding} {fresh′ named′ : List ℕ} → NestedAs part at reached fresh named r fresh′ named′ → r′ ≡ withRoom r reached
-      → FoundAs part at reached fresh named r′ fresh′ named′
-  unfolding foundAt
+      → RoomyAs part at reached fresh named r′ fresh′ named′
+  unfolding roomyFound
   found-nested b f z =
       let e : eqb (getD part 0 0) 0x28 ≡ true = eq-eqb (getD part 0 0) 0x28 b in
       rw z (record { found = simp e (with-room-is (λ p. nestedFound p part) (omega (arith, room .few)) (f .found)) })
 
   pub found-plain : (getD part 0 0 ≡ 0x28 → ⊥) → {r r′ : Finding} {named′ : List ℕ} → PlainAs part at reached named r named′ → r′ ≡ withRoom r reached
-      → FoundAs part at reached fresh named r′ fresh named′
-  unfolding foundAt
+      → RoomyAs part at reached fresh named r′ fresh named′
+  unfolding roomyFound
   found-plain b f z =
       let few : reached .fresh ≤ shapeLimit = omega (arith, room .few) in
       let e : eqb (getD part 0 0) 0x28 ≡ false = ne-eqb (getD part 0 0) 0x28 b in

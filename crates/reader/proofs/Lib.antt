@@ -3,4 +3,5 @@ pub mod Stores
 pub mod Noting
 pub mod Judging
 pub mod Findings
+pub mod Laid
 pub mod Walking

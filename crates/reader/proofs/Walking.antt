@@ -4,7 +4,7 @@ use Prim.Native.Nat.{ℕ, zero, suc, _+_, _-_, _*_, _≤_, _<_}
 use native.Mathlib.Omega.{arith}
 use mathlib.Core.Path.{_≡_, refl, sym, ap, _∙_}
 use mathlib.Core.Bool.{Bool, true, false, false≢true}
-use mathlib.Core.List.{List, [], _∷_, _++_, append-nil}
+use mathlib.Core.List.{List, [], _∷_, _++_, append-nil, map}
 use lib.ListN.{length, take, drop, length-append, length-drop, length-map}
 use lib.Dec.{eqb, ltb}
 use lib.Seq.{take-all}
@@ -24,20 +24,20 @@ use Rattle.cases.specs.declared.counts.Counts.{Counts}
 use Rattle.cases.specs.Case.{Case, emptyCase, countsOf}
 use Rattle.cases.specs.Faults.{withinLimit}
 use Rattle.cases.specs.Parts.{Part, Named, Plain, Around, Joining, names, size, innerSize, rule, rules, freshRules, freshCount, expansion}
-use Rattle.cases.specs.Reading.{numberOf, noRefusal, Note, Progress, start, countsSoFar, add, shapesNamed, namedAt, Entry, Shape, Other, pass, Found, Fault, Good, foundAt, roomFor}
+use Rattle.cases.specs.Reading.{numberOf, noRefusal, Note, Progress, start, countsSoFar, add, shapesNamed, namedAt, Entry, Shape, Other, pass, Found, Fault, Good, foundAt}
 use Rattle.cases.specs.Reading.{unknownShape, afterEnd, refused, finish, isEnd, isEndEntry, stepped, walk, walked, Outcome, expanded, outcome, reading}
-use Rattle.cases.specs.Rows.{caseIn, Full}
+use Rattle.cases.specs.Rows.{edgeIn, caseIn, Full}
 use Rattle.cases.proofs.Expansion.{length-rules, length-freshRules, length-expansion, freshCount-more, rules-more, freshRules-more}
 use Rattle.cases.proofs.InRows.{counts-in, limited-fit}
 use Rattle.cases.proofs.Sound.{SoundSoFar, start-sound, sound-pass, afterEnd-none, below, outcome-sound, outcome-limited}
-use Rattle.cases.proofs.Steps.{EntryShows, Shows, GoodShows, found-shows}
+use Rattle.cases.proofs.Steps.{EntryShows, Shows, Admitted, GoodShows, found-shows}
 use Rattle.parts.specs.Expanding.{withShapes, ExpandedAs}
 use Rattle.parts.specs.Tables.{rulesIn, namedIn}
 use Rattle.parts.proofs.Renumbering.{expansion-moved}
 use Rattle.parts.proofs.Stores.{length-rulesIn}
 use Rattle.reader.specs.declared.finding.Finding.{Finding}
 use Rattle.reader.specs.declared.finding.Reached.{Reached}
-use Rattle.reader.specs.Finding.{nothingReached, FindRoom, Stands, entryCommand, entryInside, entryNames, isShape, isShapeEntry, Adds, StepIs, FoundAs}
+use Rattle.reader.specs.Finding.{nothingReached, RowRoom, FindRoom, Stands, entryCommand, entryInside, entryNames, isShape, isShapeEntry, Adds, StepIs, FoundAs}
 use Rattle.reader.specs.Parsing.{refusedAs, endFault, EndRoom, EndedAs, ParsedAs}
 use Rattle.reader.specs.Storing.{StoredWithin, StoreRoom, Stored}
 use Rattle.reader.proofs.Findings.{few-references, rules-count}
@@ -278,6 +278,10 @@ module _ {s : List ℕ} {at : ℕ} {reached : Reached} {rows fresh named : List 
   stands : Stands (g .progress) reached
   stands = record { last-is = g .last-is; counts-are = counts-are; fresh-is = fresh-is }
 
+  edges-are : map (edgeIn rows) (upTo (reached .counts .edges)) ≡ g .progress .case .edges
+  unfolding caseIn drafted
+  edges-are = ap (λ c. c .edges) (g .case-is)
+
   noted-is : reached .noted ≡ length (g .progress .named)
   noted-is = sym (length-named named (reached .noted)) ∙ ap length (g .notes-are)
 
@@ -298,6 +302,9 @@ module _ {s : List ℕ} {at : ℕ} {reached : Reached} {rows fresh named : List 
   left : at < length s → (f : ℕ) × (g .fuel ≡ suc f)
   left h = (g .fuel - 1, omega (arith, g .enough))
 
+  pub row-room : RowRoom (reached .counts .edges) rows
+  row-room = record { few = omega (arith, within); full = g .full }
+
   pub find-room : at < length s → FindRoom (take (length s - at) (drop at s)) reached fresh named
   find-room h = record {
     some = rw (rest s at) (omega (arith, length-drop at s));
@@ -306,9 +313,10 @@ module _ {s : List ℕ} {at : ℕ} {reached : Reached} {rows fresh named : List 
     notes = omega (arith, shapes-are, g .sound .kept .few, g .few, noted-is, g .sound .kept .targets, g .named-long);
   }
 
-  module _ (h : at < length s) {finding : Finding} {fresh′ named′ : List ℕ} (f : FoundAs (take (length s - at) (drop at s)) at reached fresh named finding fresh′ named′) where
+  module _ (h : at < length s) {finding : Finding} {fresh′ named′ : List ℕ} (f : FoundAs (take (length s - at) (drop at s)) at reached rows fresh named finding fresh′ named′) where
     step-is : {step : Step} → finding .step ≡ step → StepIs (foundAt (g .progress) (drop at s)) at reached fresh named step (finding .fresh) (finding .noted) fresh′ named′
-    step-is e = rw (← e, ← rest s at) (f .found .is (g .progress) stands)
+    unfolding foundAt
+    step-is e = rw (← e, ← rest s at) (rw edges-are at (f .found .is (g .progress) stands))
 
     pub going-refused : {step : Step} {number m : ℕ} → finding .step ≡ step → step ≡ Refused number → m ≡ numberOf step → {r : Parsed} → r ≡ refusedAs m at → ParsedAs s r rows
     unfolding StepIs stepped
@@ -325,7 +333,7 @@ module _ {s : List ℕ} {at : ℕ} {reached : Reached} {rows fresh named : List 
       onward : stepped (walk (left h .0) s) s at (g .progress) (Good (adds .entry) taken) ≡ walked s
       onward = sym (walk-step s at (g .progress) (left h .0) h (Good (adds .entry) taken) (adds .is)) ∙ rw (← left h .1) (g .same)
 
-      shows : Shows (g .progress) (drop at s) (adds .entry) taken × (roomFor (g .progress) (adds .entry) ≡ true)
+      shows : Shows (g .progress) (drop at s) (adds .entry) taken × Admitted (g .progress) (adds .entry)
       unfolding GoodShows
       shows = rw (adds .is) at (found-shows (g .progress) (drop at s))
 

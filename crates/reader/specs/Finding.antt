@@ -1,8 +1,8 @@
 -- What finding a command needs and leaves. No part of document 01. Assumes nothing.
 use Prim.Native.Nat.{ℕ, _+_, _*_, _≤_, _<_}
 use mathlib.Core.Path.{_≡_}
-use mathlib.Core.Bool.{Bool, true, false, cond, _&&_}
-use mathlib.Core.List.{List, [], _++_}
+use mathlib.Core.Bool.{Bool, true, false, cond, not, _&&_}
+use mathlib.Core.List.{List, [], _++_, map}
 use lib.ListN.{length}
 use lib.Dec.{leb}
 use Rattle.cases.specs.declared.answers.Step.{Step}
@@ -11,12 +11,16 @@ use Rattle.cases.specs.declared.answers.Taken.{Taken}
 use Rattle.cases.specs.declared.command.Command.{Command}
 use Rattle.cases.specs.declared.command.Command.the-variants.{Nodes, End}
 use Rattle.cases.specs.declared.command.Command.the-variants.{Edge as EdgeCommand, Path as PathCommand, Shape as ShapeCommand, Target as TargetCommand}
+use Rattle.cases.specs.declared.command.Edge.{Edge}
 use Rattle.cases.specs.declared.command.Row.{Row}
 use Rattle.cases.specs.declared.command.ShapeRule.{ShapeRule}
+use Rattle.fixpoint.specs.Lists.{upTo}
 use Rattle.cases.specs.Counts.{shapeLimit}
+use Rattle.cases.specs.Faults.{edgeThere}
 use Rattle.cases.specs.Format.{shapeRuleOf}
+use Rattle.cases.specs.Rows.{Full, edgeIn}
 use Rattle.cases.specs.Parts.{names, rule, inside, freshCount}
-use Rattle.cases.specs.Reading.{stepAt, Progress, countsSoFar, shapesNamed, namedAt, Entry, Shape, Other, Found, Fault, Good, plainFound, nestedFound, foundAt}
+use Rattle.cases.specs.Reading.{stepAt, Progress, countsSoFar, shapesNamed, namedAt, Entry, Shape, Other, Found, Fault, Good, plainFound, nestedFound, roomyFound, laidFound}
 use Rattle.parts.specs.declared.readers.Opened.{Opened}
 use Rattle.parts.specs.declared.readers.Opened.the-variants.{Refused as PartRefused, Name, Rule}
 use Rattle.parts.specs.Tables.{rulesIn, namedIn}
@@ -56,7 +60,19 @@ unfoldable pub withRoom : Finding → Reached → Finding
 withRoom finding reached =
     cond (isBeyond (finding .step) (reached .counts .shapes + finding .fresh)) (refusedFinding 19 reached) finding
 
+abbrev pub isUnlaid : Step → List Edge → Bool
+isUnlaid (Refused number) edges = false
+isUnlaid (Is command row taken) edges = not (edgeThere edges command)
+
+unfoldable pub withEdge : Finding → Reached → List Edge → Finding
+withEdge finding reached edges = cond (isUnlaid (finding .step) edges) (refusedFinding 20 reached) finding
+
 -- ---- Room
+
+-- the table has its rows, and so many of them are edges
+pub record RowRoom (edges : ℕ) (rows : List ℕ) : Type 0 where
+  pub few : edges ≤ 1036
+  pub full : Full rows
 
 pub record PlainRoom (part : List ℕ) (reached : Reached) (named : List ℕ) : Type 0 where
   pub some : 0 < length part
@@ -123,5 +139,9 @@ pub record PlainAs (part : List ℕ) (at : ℕ) (reached : Reached) (named : Lis
 pub record NestedAs (part : List ℕ) (at : ℕ) (reached : Reached) (fresh named : List ℕ) (r : Finding) (fresh′ named′ : List ℕ) : Type 0 where
   pub found : FindingIs (λ p. nestedFound p part) at reached fresh named r fresh′ named′
 
-pub record FoundAs (part : List ℕ) (at : ℕ) (reached : Reached) (fresh named : List ℕ) (r : Finding) (fresh′ named′ : List ℕ) : Type 0 where
-  pub found : FindingIs (λ p. foundAt p part) at reached fresh named r fresh′ named′
+pub record RoomyAs (part : List ℕ) (at : ℕ) (reached : Reached) (fresh named : List ℕ) (r : Finding) (fresh′ named′ : List ℕ) : Type 0 where
+  pub found : FindingIs (λ p. roomyFound p part) at reached fresh named r fresh′ named′
+
+-- of any command, judged by the edges in the rows too
+pub record FoundAs (part : List ℕ) (at : ℕ) (reached : Reached) (rows fresh named : List ℕ) (r : Finding) (fresh′ named′ : List ℕ) : Type 0 where
+  pub found : FindingIs (λ p. laidFound (map (edgeIn rows) (upTo (reached .counts .edges))) (roomyFound p part)) at reached fresh named r fresh′ named′

@@ -1,7 +1,8 @@
 // What is found where a command should start: a command as a step, and, in tables of their own, the fresh shapes that it makes and the shapes
-// that it names. A 28 has a form of its own; every other command is judged by `next`. 19 is the last check of every shape command.
+// that it names. A 28 has a form of its own; every other command is judged by `next`. 19 is the last check of every shape command, 20 that of a 03.
 use crate::faults::in_order;
 use crate::faults::next;
+use crate::parking::edge_there;
 use crate::storing::note;
 use cases::answers::Step;
 use cases::answers::Taken;
@@ -17,8 +18,11 @@ use parts::readers::Opened;
 use parts::readers::read_part;
 ghost use mathlib.Core.Path.{_≡_};
 ghost use Prim.Native.Nat.{_+_, _≤_};
-ghost use Rattle.reader.specs.Finding.{nothingReached, refusedFinding, shapeStep, partFinding, isShape, isBeyond, withRoom};
-ghost use Rattle.reader.specs.Finding.{PlainRoom, PlainAs, FindRoom, NestedAs, FoundAs};
+ghost use mathlib.Core.List.{map};
+ghost use Rattle.fixpoint.specs.Lists.{upTo};
+ghost use Rattle.cases.specs.Rows.{edgeIn};
+ghost use Rattle.reader.specs.Finding.{nothingReached, refusedFinding, shapeStep, partFinding, isShape, isBeyond, withRoom, isUnlaid, withEdge};
+ghost use Rattle.reader.specs.Finding.{PlainRoom, PlainAs, FindRoom, NestedAs, RoomyAs, RowRoom, FoundAs};
 
 // What has been read: the last command's group, the counts of what the rows hold, and how many fresh rows and notes there are.
 pub struct Reached {
@@ -169,8 +173,8 @@ fn with_room(finding: Finding, reached: Reached) -> Finding
     finding
 }
 
-// Finds the command that `part` starts with, which stands at `at`.
-pub fn find(
+// Any command, judged by all but 20.
+fn find_roomy(
     part: &[u8],
     at: usize,
     reached: Reached,
@@ -178,10 +182,51 @@ pub fn find(
     named: &mut [usize],
 ) -> Finding
     requires { ⌜ FindRoom (now part) reached (now fresh) (now named) ⌝ }
-    ensures { λ r. ⌜ FoundAs (now (part .entry)) at reached (now (fresh .entry)) (now (named .entry)) r (now (fresh .exit)) (now (named .exit)) ⌝ }
+    ensures { λ r. ⌜ RoomyAs (now (part .entry)) at reached (now (fresh .entry)) (now (named .entry)) r (now (fresh .exit)) (now (named .exit)) ⌝ }
 {
     if part[0] == 0x28 {
         return with_room(find_nested(part, at, reached, fresh, named), reached);
     }
     with_room(find_plain(part, at, reached, named), reached)
+}
+
+// Whether a step is a 03 of an edge that was not laid before it.
+fn is_unlaid(step: Step, edges: usize, rows: &[u16]) -> bool
+    requires { ⌜ RowRoom edges (now rows) ⌝ }
+    ensures { λ r. ⌜ r ≡ isUnlaid step (map (edgeIn (now (rows .entry))) (upTo edges)) ⌝ }
+{
+    match step {
+        Step::Refused(_) => false,
+        Step::Is(command, _, _) => !edge_there(command, edges, rows),
+    }
+}
+
+// 20, after all other checks of a 03. The rows hold the edges so far.
+fn with_edge(finding: Finding, reached: Reached, rows: &[u16]) -> Finding
+    requires { ⌜ RowRoom (reached .counts .edges) (now rows) ⌝ }
+    ensures { λ r. ⌜ r ≡ withEdge finding reached (map (edgeIn (now (rows .entry))) (upTo (reached .counts .edges))) ⌝ }
+{
+    let step = finding.step;
+    let counts = reached.counts;
+    if is_unlaid(step, counts.edges, rows) {
+        return refused_finding(20, reached);
+    }
+    finding
+}
+
+// Finds the command that `part` starts with, which stands at `at`.
+pub fn find(
+    part: &[u8],
+    at: usize,
+    reached: Reached,
+    rows: &[u16],
+    fresh: &mut [u16],
+    named: &mut [usize],
+) -> Finding
+    requires { ⌜ FindRoom (now part) reached (now fresh) (now named) ⌝ }
+    requires { ⌜ RowRoom (reached .counts .edges) (now rows) ⌝ }
+    ensures { λ r. ⌜ FoundAs (now (part .entry)) at reached (now (rows .entry)) (now (fresh .entry)) (now (named .entry)) r (now (fresh .exit)) (now (named .exit)) ⌝ }
+{
+    let finding = find_roomy(part, at, reached, fresh, named);
+    with_edge(finding, reached, rows)
 }

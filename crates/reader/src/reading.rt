@@ -100,7 +100,7 @@ pub fn parse(case: &[u8], rows: &mut [u16]) -> Parsed
     let mut at = 0;
     let mut reached = nothing_reached();
     while at < case.len() {
-        let finding = find(&case[at..], at, reached, &mut fresh, &mut named);
+        let finding = find(&case[at..], at, reached, rows, &mut fresh, &mut named);
         let step = finding.step;
         let Step::Is(command, row, taken) = step else {
             return refused(number_of(step), at);

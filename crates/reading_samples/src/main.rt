@@ -1,4 +1,4 @@
-// Reads the samples of document 01, each limit at it and one above, and each refusal 1 to 9, 18 and 19, and prints what reading answers:
+// Reads the samples of document 01, each limit at it and one above, and each refusal 1 to 9, 18, 19 and 20, and prints what reading answers:
 // the name, the refusal's number and place, and the counts of nodes, edges, paths, shapes and targets.
 mod build;
 
@@ -148,6 +148,45 @@ fn edge_limit() {
     );
 }
 
+// Parked edges, refusal 20, and the limit that they share with the others.
+fn parked() {
+    let nodes = b"\x01\x02\x00";
+    let laid = b"\x02\x00\x00\x00\x01\x00";
+    show_many(
+        b"parked",
+        nodes,
+        laid,
+        1,
+        b"\x03\x00\x00\x00\x01\x00\x03\x00\x00\x00\x01\x00\x02\x00\x00\x00\x01\x00\xff",
+    );
+    show_many(
+        b"1024 edges, one parked",
+        nodes,
+        laid,
+        1023,
+        b"\x03\x00\x00\x00\x01\x00\xff",
+    );
+    show_many(
+        b"1025 edges, one parked",
+        nodes,
+        laid,
+        1024,
+        b"\x03\x00\x00\x00\x01\x00\xff",
+    );
+    show_many(
+        b"20 the other way",
+        nodes,
+        laid,
+        1,
+        b"\x03\x00\x01\x00\x00\x00\xff",
+    );
+    show(
+        b"20 before its 02",
+        b"\x01\x02\x00\x03\x00\x00\x00\x01\x00\x02\x00\x00\x00\x01\x00\xff",
+    );
+    show(b"5 before 20", b"\x01\x02\x00\x03\x00\x00\x00\x02\x00\xff");
+}
+
 fn path_limit() {
     let node = b"\x01\x01\x00";
     show_many(b"16 paths", node, b"\x10\x00", 16, b"\xff");
@@ -285,6 +324,7 @@ fn main() {
     unknown_paths();
     late_refusals();
     edge_limit();
+    parked();
     path_limit();
     shape_limit();
     target_limit();

@@ -1,6 +1,7 @@
 -- The laws of a case's meaning and the theorems about levels, stability, solving and denial.
 pub mod Pairs
 pub mod Nesting
+pub mod Parking
 pub mod Kernel
 pub mod Thresholds
 pub mod Levels

@@ -2,6 +2,7 @@
 pub mod Paths
 pub mod Values
 pub mod Nested
+pub mod Parking
 pub mod Levels
 pub mod Stability
 pub mod Solving

@@ -22,7 +22,7 @@ use Rattle.semantics.specs.Stability
 use Rattle.semantics.specs.Solving
 use Rattle.semantics.specs.Denial
 use Rattle.semantics.specs.Operations
-use Rattle.theorems.specs.Samples.{OnlyStable, AllPass, lent, twoBytes, solved, ranked, ring, oneNode, clash, notItself, orItself, twoPaths, noFillers, nested, starred}
+use Rattle.theorems.specs.Samples.{OnlyStable, AllPass, lent, twoBytes, solved, ranked, ring, oneNode, clash, notItself, orItself, twoPaths, noFillers, nested, parked, starred}
 
 -- a value that is 2 exactly if it is not at least 1 is 1
 only-one : (x : ℕ) → leb x 2 ≡ true → eqb x 2 ≡ not (leb 1 x) → x ≡ 1
@@ -37,17 +37,17 @@ one-pair v w e (suc k) h = absurd (omega arith)
 
 -- All but one compute. The shape that is not itself: T = C(P) says that its pair is valid exactly if it isn't possible.
 pub starred-samples : AllPass starred
-unfolding starred ring oneNode clash notItself orItself twoPaths noFillers nested lent twoBytes solved ranked
+unfolding starred ring oneNode clash notItself orItself twoPaths noFillers nested parked lent twoBytes solved ranked
     Lists.from Lists.upTo Lists.any Lists.all Lists.keep Lists.count Lists.largest Lists.insert Lists.sort Lists.nthSmallest
     Lists.nthLargest Lists.firstFrom
     Sets.has Sets.collect Sets.none Sets.same
     Stages.stage Stages.least Stages.firstStep Stages.reach Stages.closure Stages.lower Stages.upper Stages.rest
-    Case.emptyCase Case.countsOf Case.pathRule Case.shapeRule Case.pathsOfPath Case.pathsOfShape Case.references
+    Case.emptyCase Case.countsOf Case.edgeIs Case.pathRule Case.shapeRule Case.pathsOfPath Case.pathsOfShape Case.references
     Format.formatOf Format.widthOf Format.takenOf Format.numberAt Format.rowOf Format.complete Format.operandsBy Format.pathRuleOf Format.shapeRuleOf
     Format.commandOf Format.commandAt
-    Faults.pathPathsEarlier Faults.shapePathsEarlier Reading.judged Faults.shapeNodesKnown Reading.stepAt Reading.start Reading.add
+    Faults.laid Faults.pathPathsEarlier Faults.shapePathsEarlier Reading.judged Faults.shapeNodesKnown Reading.stepAt Reading.start Reading.add
     Reading.shapesNamed Reading.namedAt Reading.pass Reading.unknownShape Reading.afterEnd Reading.finish Reading.stepped Reading.walk
-    Reading.countsSoFar Reading.nestedFound Reading.foundAt Reading.walked Reading.expanded Reading.outcome
+    Reading.countsSoFar Reading.nestedFound Reading.roomyFound Reading.foundAt Reading.walked Reading.expanded Reading.outcome
     Parts.partFormatOf Parts.opening Parts.ruleHead Parts.atMostHead Parts.wholeHead Parts.headBy Parts.headAt Parts.andThen Parts.opened Parts.partAt
     Parts.names Parts.filled Parts.size Parts.innerSize Parts.operand Parts.rule Parts.fresh Parts.inside Parts.rules Parts.freshRules Parts.expansion
     Paths.live Paths.linked Paths.ruleFills Paths.fillsWithin Paths.fills Paths.fillers
@@ -63,7 +63,7 @@ unfolding starred ring oneNode clash notItself orItself twoPaths noFillers neste
     Operations.solveValues Operations.solveLevels Operations.solveVerdicts Operations.checkRefusal Operations.checkFault Operations.valueFault Operations.pairFault Operations.checkAnswer Operations.checked
     Operations.rankRefusal Operations.rankFault Operations.denialFault Operations.rankAnswer Operations.ranked Operations.rankStrata
 starred-samples =
-    (refl, (refl, (refl, (refl, (refl, (refl, (refl, (not-itself, (refl, (refl, (refl, (refl, (refl, tt)))))))))))))
+    (refl, (refl, (refl, (refl, (refl, (refl, (refl, (not-itself, (refl, (refl, (refl, (refl, (refl, (refl, tt))))))))))))))
   where
     not-itself : OnlyStable notItself (1 ∷ [])
     not-itself =

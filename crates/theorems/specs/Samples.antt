@@ -1,4 +1,4 @@
--- The starred samples of document 01, "Samples", and one of document 02, point 2: what each says, and one table of them. Assumes nothing.
+-- The starred samples of document 01, "Samples", and two of document 02, points 2 and 4: what each says, and one table of them. Assumes nothing.
 use Prim.Native.Nat.{ℕ, zero, suc, _<_}
 use mathlib.Core.Path.{_≡_}
 use mathlib.Core.List.{List, [], _∷_}
@@ -112,6 +112,19 @@ noFillers =
     ∷ 0x20 ∷ 0x26 ∷ 0x00 ∷ 0x00
     ∷ 0xff ∷ []
 
+-- an edge from node 0 to node 1 is laid, parked twice and laid again; shape 1 asks for a neighbour on path 0, which goes on, shape 2 for one on
+-- path 1, which goes back
+unfoldable pub parked : List ℕ
+parked =
+    0x01 ∷ 0x02 ∷ 0x00
+    ∷ 0x02 ∷ 0x00 ∷ 0x00 ∷ 0x00 ∷ 0x01 ∷ 0x00
+    ∷ 0x03 ∷ 0x00 ∷ 0x00 ∷ 0x00 ∷ 0x01 ∷ 0x00
+    ∷ 0x03 ∷ 0x00 ∷ 0x00 ∷ 0x00 ∷ 0x01 ∷ 0x00
+    ∷ 0x02 ∷ 0x00 ∷ 0x00 ∷ 0x00 ∷ 0x01 ∷ 0x00
+    ∷ 0x10 ∷ 0x00 ∷ 0x11 ∷ 0x00
+    ∷ 0x20 ∷ 0x27 ∷ 0x01 ∷ 0x00 ∷ 0x00 ∷ 0x27 ∷ 0x01 ∷ 0x01 ∷ 0x00
+    ∷ 0xff ∷ []
+
 -- one edge, from node 0 to node 1, and a rule inside rules: shape 0 is top, shape 1 in one command "not not shape 0, and at most 0 neighbours
 -- that are node 1"
 unfoldable pub nested : List ℕ
@@ -138,7 +151,7 @@ solution r v u s o i =
 abbrev checked : (number place : ℕ) → Checked
 checked n p = record { number = n; place = p; undetermined = 0; valid = 0 }
 
--- in the document's order; then the rule inside rules: both nots stay, and the at most makes a not and an at least
+-- in the document's order; then the rule inside rules: both nots stay, and the at most makes a not and an at least; then the parked edge
 unfoldable pub starred : List Sample
 starred =
     solves ring (solution 2 10 0 1 0 1)
@@ -164,4 +177,5 @@ starred =
     (2 ∷ 2 ∷ 0 ∷ 2 ∷ 2 ∷ 2 ∷ 0 ∷ 0 ∷ 0 ∷ 2 ∷ 2 ∷ 0 ∷ 0 ∷ 2 ∷ [])
     (1 ∷ 1 ∷ 0 ∷ 2 ∷ 1 ∷ 1 ∷ 0 ∷ 0 ∷ 0 ∷ 1 ∷ 2 ∷ 0 ∷ 0 ∷ 1 ∷ [])
     (0 ∷ 2 ∷ [])
+    ∷ solves parked (solution 2 2 0 0 0 0) (2 ∷ 2 ∷ 0 ∷ 0 ∷ 0 ∷ 0 ∷ []) (1 ∷ 1 ∷ 0 ∷ 0 ∷ 0 ∷ 0 ∷ []) []
     ∷ []

@@ -4,7 +4,7 @@ use Prim.Native.Nat.{_-_}
 use native.Mathlib.Omega.{arith}
 use lib.ListN.{length}
 use mathlib.Core.Path.{_≡_, refl, sym, _∙_}
-use Rattle.reader.proofs.Walking.{Going, going-none, going-over, find-room, going-refused, end-room, going-ended, store-room, taken-fits, taken-some, going-more}
+use Rattle.reader.proofs.Walking.{Going, going-none, going-over, row-room, find-room, going-refused, end-room, going-ended, store-room, taken-fits, taken-some, going-more}
 use borrow.Author.Needs.{needs}
 use Rattle.reader.proofs.reading.parse.Statement.{statement}
 use Rattle.reader.proofs.reading.parse.Tie as tie
@@ -19,16 +19,16 @@ loop-holds : tie.Need-loop-holds Inv-loop μ-loop
 loop-holds c = (search (going-none, arith), refl)
 
 slice-aggregate-find : tie.Need-slice-aggregate-find Inv-loop μ-loop
-slice-aggregate-find c = sym (c .before .before .before .loop .inv .0 .fresh-long)
+slice-aggregate-find c = sym (c .before .before .before .before .loop .inv .0 .fresh-long)
 
 slice-aggregate-find-2 : tie.Need-slice-aggregate-find-2 Inv-loop μ-loop
-slice-aggregate-find-2 c = sym (c .before .before .before .before .loop .inv .0 .named-long)
+slice-aggregate-find-2 c = sym (c .before .before .before .before .before .loop .inv .0 .named-long)
 
 find-requires : tie.Need-find-requires Inv-loop μ-loop
-find-requires c κs = search find-room
+find-requires c κs = search (find-room, row-room)
 
 same-length : tie.Need-same-length Inv-loop μ-loop
-same-length c = c .before .before .before .before .before .before .before .before .before .before .before .loop .inv .1
+same-length c = c .before .before .before .before .before .before .before .before .before .before .before .before .loop .inv .1
 
 returns : tie.Need-returns Inv-loop μ-loop
 returns c = search going-refused
@@ -36,21 +36,21 @@ returns c = search going-refused
 slice-aggregate-ended : tie.Need-slice-aggregate-ended Inv-loop μ-loop
 slice-aggregate-ended c =
     let found = c .before .before .before .before .before .before .before .before in
-    sym (found .find .ensures .found .fresh-long ∙ found .before .before .before .before .before .loop .inv .0 .fresh-long)
+    sym (found .find .ensures .found .fresh-long ∙ found .before .before .before .before .before .before .loop .inv .0 .fresh-long)
 
 slice-aggregate-ended-2 : tie.Need-slice-aggregate-ended-2 Inv-loop μ-loop
 slice-aggregate-ended-2 c =
     let found = c .before .before .before .before .before .before .before .before .before in
-    sym (found .find .ensures .found .named-long ∙ found .before .before .before .before .before .loop .inv .0 .named-long)
+    sym (found .find .ensures .found .named-long ∙ found .before .before .before .before .before .before .loop .inv .0 .named-long)
 
 ended-requires : tie.Need-ended-requires Inv-loop μ-loop
 ended-requires c κs =
     let found = c .before .before .before .before .before .before .before .before .before .before in
-    let tested = found .before .before .before .before in
+    let tested = found .before .before .before .before .before in
     end-room (tested .before .loop .inv .0) (tested .loop-test .taken) (found .find .ensures) refl (c .before .before .before .before .before .before .step .given .1)
 
 same-length-2 : tie.Need-same-length-2 Inv-loop μ-loop
-same-length-2 c = c .before .before .ended .ensures .long ∙ c .before .before .before .before .before .before .before .before .before .before .before .before .before .before .before .before .before .before .loop .inv .1
+same-length-2 c = c .before .before .ended .ensures .long ∙ c .before .before .before .before .before .before .before .before .before .before .before .before .before .before .before .before .before .before .before .loop .inv .1
 
 returns-2 : tie.Need-returns-2 Inv-loop μ-loop
 returns-2 c =
@@ -58,7 +58,7 @@ returns-2 c =
     let asked = ended .before .before .before .before .before in
     let step = asked .before .before in
     let found = step .before .before .before .before in
-    let tested = found .before .before .before .before in
+    let tested = found .before .before .before .before .before in
     going-ended (tested .before .loop .inv .0) (tested .loop-test .taken) (found .find .ensures) refl (step .step .given .1)
     (asked .is-end .ensures) (c .before .before .before .before .before .before .if1 .taken) (ended .ended .ensures)
 
@@ -69,7 +69,7 @@ add-at : tie.Need-add-at Inv-loop μ-loop
 add-at c =
     let step = c .before .before .before .before .before .before .before .before in
     let found = step .before .before .before .before in
-    let tested = found .before .before .before .before in
+    let tested = found .before .before .before .before .before in
     let turn = tested .before in
     omega (arith, turn .before .before .before .before .good, taken-fits (turn .loop .inv .0) (tested .loop-test .taken) (found .find .ensures) refl (step .step .given .1))
 
@@ -77,7 +77,7 @@ loop-less : tie.Need-loop-less Inv-loop μ-loop
 loop-less c =
     let step = c .before .before .before .before .before .before .before .before in
     let found = step .before .before .before .before in
-    let tested = found .before .before .before .before in
+    let tested = found .before .before .before .before .before in
     omega (arith, taken-some (tested .before .loop .inv .0) (tested .loop-test .taken) (found .find .ensures) refl (step .step .given .1))
 
 loop-again : tie.Need-loop-again Inv-loop μ-loop
@@ -86,7 +86,7 @@ loop-again c =
     let asked = stored .before .before .before in
     let step = asked .before .before in
     let found = step .before .before .before .before in
-    let tested = found .before .before .before .before in
+    let tested = found .before .before .before .before .before in
     let g = tested .before .loop .inv in (
       going-more (g .0) (tested .loop-test .taken) (found .find .ensures) refl (step .step .given .1) (asked .is-end .ensures) (c .before .before .before .before .before .if1 .left) (stored .store .ensures),
       stored .store .ensures .long ∙ g .1,

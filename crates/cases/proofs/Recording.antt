@@ -1,0 +1,88 @@
+-- Every edge of a case that reading gives is laid by an 02, or parked by a 03 behind one. Document 02, point 4. Assumes nothing.
+use Prim.Native.Nat.{ℕ, suc}
+use mathlib.Core.Path.{_≡_, refl}
+use mathlib.Core.Bool.{Bool, true, not, _&&_, _||_, false≢true, and-eq-true-iff}
+use mathlib.Core.List.{List, [], _∷_, _++_, append-assoc, append-nil}
+use lib.ListN.{length}
+use lib.Dec.{eqb}
+use Rattle.fixpoint.proofs.Lists.{by-test}
+use Rattle.cases.specs.declared.command.Command.{Command}
+use Rattle.cases.specs.declared.command.Command.the-variants.{Nodes, End}
+use Rattle.cases.specs.declared.command.Command.the-variants.{Edge as EdgeCommand, Path as PathCommand, Shape as ShapeCommand, Target as TargetCommand}
+use Rattle.cases.specs.declared.command.Edge.{Edge}
+use Rattle.cases.specs.Case.{emptyCase}
+use Rattle.cases.specs.Faults.{laid, edgeThere}
+use Rattle.cases.specs.Reading.{Progress, start, add, Entry, Shape, Other, pass, afterEnd, refused, finish, walked, expanded, outcome}
+use Rattle.cases.specs.Sound.{recorded, Recorded}
+use Rattle.cases.proofs.Steps.{edgeCoded, EntryShows, Admitted, walk-keeps}
+
+-- an edge behind others is an 02, or a 03 of one of them
+unfoldable pub recordedAt : List Edge → Edge → Bool
+recordedAt before e = eqb (e .code) 0x02 || (eqb (e .code) 0x03 && laid before e)
+
+-- ---- Lists of edges: one more at the end, and one from the midst
+
+recorded-snoc : (before l : List Edge) (e : Edge) → recorded before l ≡ true → recordedAt (before ++ l) e ≡ true → recorded before (l ++ (e ∷ [])) ≡ true
+unfolding recorded recordedAt
+recorded-snoc before [] e h k =
+    let there : recordedAt before e ≡ true = rw (append-nil before) at k in
+    rw there refl
+recorded-snoc before (d ∷ l) e h k =
+    let both = and-eq-true-iff (recordedAt before d) (recorded (before ++ (d ∷ [])) l) .0 h in
+    let there : recordedAt ((before ++ (d ∷ [])) ++ l) e ≡ true = rw (append-assoc before (d ∷ []) l) k in
+    rw (both .0) (recorded-snoc (before ++ (d ∷ [])) l e (both .1) there)
+
+pub recorded-in : (before prior : List Edge) (e : Edge) (later : List Edge) → recorded before (prior ++ (e ∷ later)) ≡ true → recordedAt (before ++ prior) e ≡ true
+unfolding recorded recordedAt
+recorded-in before [] e later h = rw (append-nil before) (and-eq-true-iff (recordedAt before e) (recorded (before ++ (e ∷ [])) later) .0 h .0)
+recorded-in before (d ∷ prior) e later h =
+    let rest = and-eq-true-iff (recordedAt before d) (recorded (before ++ (d ∷ [])) (prior ++ (e ∷ later))) .0 h .1 in
+    rw (append-assoc before (d ∷ []) prior) at (recorded-in (before ++ (d ∷ [])) prior e later rest)
+
+-- ---- The walk
+
+record RecordedSoFar (p : Progress) : Type 0 where
+  edges : recorded [] (p .case .edges) ≡ true
+
+-- what 20 lets through
+recorded-there : (before : List Edge) (e : Edge) → eqb (e .code) 0x02 || eqb (e .code) 0x03 ≡ true → not (eqb (e .code) 0x03) || laid before e ≡ true
+    → recordedAt before e ≡ true
+unfolding recordedAt
+recorded-there before e h k =
+    by-test (eqb (e .code) 0x02)
+    (λ x. rw x refl)
+    (λ x. by-test (eqb (e .code) 0x03)
+    (λ y. rw (x, y) (rw y at k))
+    (λ y. absurd (false≢true (rw (x, y) at h))))
+
+command-recorded : (p : Progress) (at g : ℕ) (command : Command) → edgeCoded command ≡ true → edgeThere (p .case .edges) command ≡ true → RecordedSoFar p
+    → RecordedSoFar (pass p at g (Other command))
+unfolding edgeCoded pass add
+command-recorded p at g (Nodes n) h k o = record { edges = o .edges }
+command-recorded p at g (EdgeCommand e) h k o = record { edges = recorded-snoc [] (p .case .edges) e (o .edges) (recorded-there (p .case .edges) e h k) }
+command-recorded p at g (PathCommand r) h k o = record { edges = o .edges }
+command-recorded p at g (ShapeCommand r) h k o = record { edges = o .edges }
+command-recorded p at g (TargetCommand t) h k o = record { edges = o .edges }
+command-recorded p at g End h k o = record { edges = o .edges }
+
+entry-recorded : (p : Progress) (part : List ℕ) (at g : ℕ) (e : Entry) → EntryShows p part g e → Admitted p e → RecordedSoFar p → RecordedSoFar (pass p at g e)
+unfolding EntryShows pass
+entry-recorded p part at g (Shape x) h k o = record { edges = o .edges }
+entry-recorded p part at g (Other command) h k o = command-recorded p at g command (h .coded) (k .there) o
+
+start-recorded : RecordedSoFar start
+unfolding start emptyCase recorded
+start-recorded = record { edges = refl }
+
+edges-expanded : (p : Progress) → RecordedSoFar p → Recorded (expanded p)
+unfolding expanded
+edges-expanded p o = record { edges-recorded = o .edges }
+
+pub outcome-recorded : (s : List ℕ) → Recorded (outcome s .case)
+unfolding outcome walked finish refused
+outcome-recorded s =
+    walk-keeps RecordedSoFar (λ w. Recorded (expanded (w .read))) s
+    (λ n at k. edges-expanded start start-recorded)
+    (λ end p k. by-test (eqb (afterEnd s end p .number) 0) (λ e. rw e (edges-expanded p k)) (λ e. rw e (edges-expanded start start-recorded)))
+    (λ at p e taken h k o. entry-recorded p _ at (taken .group) e (h .entry) k o)
+    (suc (length s)) 0 start start-recorded
