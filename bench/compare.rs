@@ -1,5 +1,5 @@
-//! Times of read, rank, check and solve with two libraries in one run, by turns: the least of many calls with each, and the second's in parts of the first's.
-//! Prints a Markdown table. The libraries are shared ones, loaded side by side. Where the first does not read a case, there is nothing to compare.
+//! Times of each call with two libraries in one run, by turns: the least of many calls with each, and the second's in parts of the first's.
+//! Prints a Markdown table. The libraries are shared ones, loaded side by side. Where the first does not read a case, or has no such call, there is nothing to compare.
 
 #[allow(dead_code)]
 #[path = "../tests/differential/generator.rs"]
@@ -22,14 +22,17 @@ struct Library {
     rank: unsafe extern "C" fn(*const u8, usize, *mut u8, usize) -> Answer<3>,
     check: unsafe extern "C" fn(*const u8, usize, *const u8, usize, *const u8, usize) -> Answer<4>,
     solve: unsafe extern "C" fn(*const u8, usize, *mut u8, usize, *mut u8, usize, *mut u8, usize) -> Answer<8>,
+    /// what an older library may lack
+    totals: Option<unsafe extern "C" fn(*const u8, usize, usize) -> Answer<4>>,
 }
 
 impl Library {
     fn load(path: &str) -> Library {
         let library = unsafe { dlopen(CString::new(path).unwrap().as_ptr(), 2) };
         assert!(!library.is_null(), "{path} is no shared library");
+        let look_for = |name: &str| unsafe { dlsym(library, CString::new(name).unwrap().as_ptr()) };
         let find = |name: &str| {
-            let found = unsafe { dlsym(library, CString::new(name).unwrap().as_ptr()) };
+            let found = look_for(name);
             assert!(!found.is_null(), "{path} has no {name}");
             found
         };
@@ -39,10 +42,13 @@ impl Library {
                 rank: std::mem::transmute(find("judge_rank")),
                 check: std::mem::transmute(find("judge_check")),
                 solve: std::mem::transmute(find("judge_solve")),
+                totals: std::mem::transmute(look_for("judge_node_totals")),
             }
         }
     }
 }
+
+const CALLS: [&str; 5] = ["read", "rank", "check", "solve", "totals"];
 
 struct Tables {
     values: [u8; 4096],
@@ -51,16 +57,17 @@ struct Tables {
     strata: [u8; 32],
 }
 
-/// One call on the case: 0 read, 1 rank, 2 check (of what the last solve wrote), 3 solve.
-fn call(library: &Library, which: usize, case: &[u8], t: &mut Tables) -> usize {
+/// One call on the case, the check being of what the last solve wrote and the totals those of node 0. None where the library lacks it.
+fn call(library: &Library, name: &str, case: &[u8], t: &mut Tables) -> Option<usize> {
     let (c, n) = (case.as_ptr(), case.len());
     unsafe {
-        match which {
-            0 => (library.read)(c, n).0[0],
-            1 => (library.rank)(c, n, t.strata.as_mut_ptr(), 32).0[2],
-            2 => (library.check)(c, n, t.values.as_ptr(), 4096, t.levels.as_ptr(), 8192).0[0],
+        Some(match name {
+            "read" => (library.read)(c, n).0[0],
+            "rank" => (library.rank)(c, n, t.strata.as_mut_ptr(), 32).0[2],
+            "check" => (library.check)(c, n, t.values.as_ptr(), 4096, t.levels.as_ptr(), 8192).0[0],
+            "totals" => (library.totals?)(c, n, 0).0[0],
             _ => (library.solve)(c, n, t.values.as_mut_ptr(), 4096, t.levels.as_mut_ptr(), 8192, t.verdicts.as_mut_ptr(), 256).0[2],
-        }
+        })
     }
 }
 
@@ -70,28 +77,31 @@ fn main() {
     let turns: usize = word("--turns").map_or(5, |w| w.parse().expect("--turns N"));
     let sizes: Vec<usize> = word("--nodes").map_or(vec![16, 32, 64, 128], |w| w.split(',').map(|n| n.parse().expect("--nodes 16,32")).collect());
     let libraries = [Library::load(&words[0]), Library::load(&words[1])];
-    println!("| case | nodes | read | rank | check | solve | read, ratio | rank, ratio | check, ratio | solve, ratio |");
-    println!("|---|---|---|---|---|---|---|---|---|---|");
+    println!("| case | nodes | {} | {} |", CALLS.join(" | "), CALLS.map(|name| format!("{name}, ratio")).join(" | "));
+    println!("|{}", "---|".repeat(2 + 2 * CALLS.len()));
     for name in FAMILIES {
         for &n in &sizes {
             for seed in 1..=seeds(name) {
                 let case = family(name, n, seed);
                 let mut t = Tables { values: [0; 4096], levels: [0; 8192], verdicts: [0; 256], strata: [0; 32] };
                 // a time that was not taken is without end
-                let mut least = [[f64::INFINITY; 4]; 2];
-                let reads: Vec<bool> = libraries.iter().map(|library| call(library, 0, &case, &mut t) == 0).collect();
-                let rounds: Vec<usize> = libraries.iter().map(|library| call(library, 3, &case, &mut t)).collect();
+                let mut least = [[f64::INFINITY; CALLS.len()]; 2];
+                let reads: Vec<bool> = libraries.iter().map(|library| call(library, "read", &case, &mut t) == Some(0)).collect();
+                let rounds: Vec<Option<usize>> = libraries.iter().map(|library| call(library, "solve", &case, &mut t)).collect();
                 assert!(reads[1] && (!reads[0] || rounds[0] == rounds[1]), "rounds of {name}");
                 for _ in 0..turns {
                     for i in (0..2).filter(|i| reads[*i]) {
-                        for which in 0..4 {
-                            least[i][which] = least[i][which].min(times(|| { call(&libraries[i], which, &case, &mut t); })[0]);
+                        for (which, name) in CALLS.into_iter().enumerate() {
+                            if call(&libraries[i], name, &case, &mut t).is_some() {
+                                least[i][which] = least[i][which].min(times(|| { call(&libraries[i], name, &case, &mut t); })[0]);
+                            }
                         }
                     }
                 }
-                let after: Vec<String> = least[1].iter().map(|s| time(*s)).collect();
-                let ratio = |i: usize| if least[0][i].is_finite() { format!("{:.2}", least[1][i] / least[0][i]) } else { "–".to_string() };
-                let ratios: Vec<String> = (0..4).map(ratio).collect();
+                let taken = |seconds: f64, shown: String| if seconds.is_finite() { shown } else { "–".to_string() };
+                let after: Vec<String> = least[1].iter().map(|s| taken(*s, time(*s))).collect();
+                let ratio = |i: usize| taken(least[0][i] + least[1][i], format!("{:.2}", least[1][i] / least[0][i]));
+                let ratios: Vec<String> = (0..CALLS.len()).map(ratio).collect();
                 println!("| {name} | {n} | {} | {} |", after.join(" | "), ratios.join(" | "));
             }
         }

@@ -1,4 +1,4 @@
-/* Solves the ring case, checks the solution, ranks the shapes, and prints the verdicts. Build it as tests/example/run does. */
+/* Solves the ring case, checks the solution, ranks the shapes, and prints the verdicts and the crew sheet. Build it as tests/example/run does. */
 #include <stdio.h>
 
 #include "judge.h"
@@ -17,6 +17,18 @@ static const uint8_t ring[] = {
 };
 
 static const char *const words[] = {"impossible", "open", "sure"};
+
+/* The crew sheet, a line for each fitting. Answers the number of a refusal, 0 for none. */
+static size_t print_sheet(const uint8_t *bytes, size_t length, size_t fittings)
+{
+    for (size_t fitting = 0; fitting < fittings; fitting++) {
+        struct judge_totals totals = judge_node_totals(bytes, length, fitting);
+        if (totals.number != 0)
+            return totals.number;
+        printf("fitting %zu: %zu pairs valid, %zu undetermined\n", fitting, totals.valid, totals.undetermined);
+    }
+    return 0;
+}
 
 int main(void)
 {
@@ -38,6 +50,7 @@ int main(void)
     printf("%zu rounds, %zu pairs valid, %zu undetermined\n", solved.rounds, solved.valid, solved.undetermined);
     for (size_t i = 0; i < read.targets; i++)
         printf("target %zu: %s\n", i, words[verdicts[i]]);
+    size_t sheet = print_sheet(ring, sizeof ring, read.nodes);
 
     struct judge_checked checked = judge_check(ring, sizeof ring, values, sizeof values, levels, sizeof levels);
     printf("check: %zu, %zu valid targets\n", checked.number, checked.valid);
@@ -48,5 +61,5 @@ int main(void)
     size_t again = solve(ring, sizeof ring, values, sizeof values, levels, sizeof levels, verdicts, sizeof verdicts);
     size_t taken = check(ring, sizeof ring, values, sizeof values, levels, sizeof levels);
     printf("desk: solve %zu, check %zu\n", again, taken);
-    return (int)(checked.number + ranked.number + again + taken);
+    return (int)(sheet + checked.number + ranked.number + again + taken);
 }

@@ -1,4 +1,4 @@
-/* The cabinet judge: reads a case, solves it, checks proposals and ranks shapes by denial.
+/* The cabinet judge: reads a case, solves it, totals it node by node, checks proposals and ranks shapes by denial.
  *
  * Link with libjudge.a, which `rt staticlib judge` writes to target/staticlib/ (x86-64 Linux). The library keeps no state, allocates
  * nothing and calls nothing: any number of threads may call it at once, each on its own tables. A call needs less than 96 KiB of stack.
@@ -20,6 +20,7 @@
  *   3       the input ends before the command or its operands do         the command's offset, or the input's length
  *   4       a limit is exceeded                                          the command's offset
  *   5       a node operand is not below the node count                   the command's offset
+ *           the node asked for is not below it                           the node
  *   6       a path operand is not an earlier path                        the command's offset
  *   7       a least number is 0, or 255 in an at most                    the command's offset
  *   8       bytes after the end command                                  the first of them
@@ -94,6 +95,14 @@ struct judge_ranked {
     size_t strata;
 };
 
+/* What the totals of a node answer: its valid and its undetermined pairs. */
+struct judge_totals {
+    size_t number;
+    size_t place;
+    size_t valid;
+    size_t undetermined;
+};
+
 /* Reads a case. Reading's refusals. */
 struct judge_reading judge_read(const uint8_t *case_bytes, size_t case_length);
 
@@ -113,6 +122,11 @@ struct judge_checked judge_check(const uint8_t *case_bytes, size_t case_length,
 /* Ranks the shapes: writes a byte for each, the most nots on a walk of references from it. Reading's refusals, 16, 17. */
 struct judge_ranked judge_rank(const uint8_t *case_bytes, size_t case_length,
                                uint8_t *strata, size_t strata_length);
+
+/* Solves a case and counts the pairs of one node, over all shapes. Reading's refusals; then 5 for a node that is not in the case, whatever
+ * the number. Writes nothing. Over all nodes the counts add up to those of judge_solve. Each call solves the case anew: for the totals of
+ * many nodes, judge_solve and a count of its values take one solving. */
+struct judge_totals judge_node_totals(const uint8_t *case_bytes, size_t case_length, size_t node);
 
 /* The same solve and check for the crew desk: the refusal number alone, 0 for none. */
 size_t solve(const uint8_t *case_bytes, size_t case_length,

@@ -58,14 +58,34 @@ static uint8_t filler[MOST_BYTES];
 
 /* ---- The same calls on plain memory */
 
+/* the nodes whose totals are asked: the first, the last, and two that are none */
+#define ASKED 4
+
+static size_t asked(const struct judge_reading *read, size_t i) {
+  const size_t nodes[ASKED] = { 0, read->nodes - 1, read->nodes, SIZE_MAX };
+  return nodes[i];
+}
+
 struct plain {
   struct judge_reading read;
   struct judge_solution solved;
   struct judge_ranked ranked;
+  struct judge_totals totals[ASKED];
   size_t pairs;
   /* values, levels and verdicts one after another; the strata, or the filler that a refusal leaves */
   uint8_t *tables, *strata;
 };
+
+static void totals_on_plain_memory(const uint8_t *bytes, size_t length, struct plain *p) {
+  for (size_t i = 0; i < ASKED; i++) {
+    size_t node = asked(&p->read, i);
+    int refused = p->read.number != 0, none = node >= p->read.nodes;
+    p->totals[i] = judge_node_totals(bytes, length, node);
+    number("number of judge_node_totals", p->totals[i].number, refused ? p->read.number : none ? 5 : 0);
+    number("place of judge_node_totals", p->totals[i].place, refused ? p->read.place : none ? node : 0);
+    if (refused || none) number("a count of a refusal", p->totals[i].valid + p->totals[i].undetermined, 0);
+  }
+}
 
 /* fresh bytes of a table are set by nothing: a call that goes by them shows under valgrind */
 static struct plain on_plain_memory(const uint8_t *bytes, size_t length) {
@@ -78,6 +98,7 @@ static struct plain on_plain_memory(const uint8_t *bytes, size_t length) {
   if (p.ranked.number != 0) memset(p.strata, filler[0], p.read.shapes);
   number("judge_solve", p.solved.number, p.read.number);
   number("the sum of the verdicts", p.solved.sure + p.solved.open + p.solved.impossible, p.read.targets);
+  totals_on_plain_memory(bytes, length, &p);
   return p;
 }
 
@@ -121,6 +142,14 @@ static void rank_at(int at_end, struct area c, size_t s, const struct judge_rank
   calls++;
 }
 
+static void totals_at(struct area c, const struct plain *p) {
+  for (size_t i = 0; i < ASKED; i++) {
+    struct judge_totals got = judge_node_totals(c.start, c.length, asked(&p->read, i));
+    same("judge_node_totals", &got, &p->totals[i], sizeof got);
+    calls++;
+  }
+}
+
 /* each table one entry short, no tables at all, and a proposal that is none */
 static void short_tables_at(int at_end, struct area c, const struct plain *p) {
   const uint8_t *values = p->tables, *levels = p->tables + p->pairs;
@@ -148,6 +177,7 @@ static void all_calls_at(int at_end, const uint8_t *bytes, size_t length, const 
   int sound = p->read.number == 0;
   solve_at(at_end, c, p->pairs, 2 * p->pairs, p->read.targets, p->read.number, p);
   rank_at(at_end, c, p->read.shapes, &p->ranked, p->strata);
+  totals_at(c, p);
   check_at(at_end, c, sound ? p->tables : filler, p->pairs, sound ? p->tables + p->pairs : filler, 2 * p->pairs, p->read.number);
   if (sound) short_tables_at(at_end, c, p);
   drop(c);
@@ -172,7 +202,7 @@ int main(int count, char **words) {
   signal(SIGBUS, on_fault);
   memset(filler, 0xA5, sizeof filler);
   for (size_t i = 0; i < case_count; i += step, done++) run(i);
-  if (calls < 12 * done) {
+  if (calls < 20 * done) {
     printf("boundary: only %zu calls on %zu cases\n", calls, done);
     return 1;
   }

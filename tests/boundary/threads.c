@@ -14,6 +14,7 @@ struct result {
   struct judge_solution solved;
   struct judge_checked checked, refused;
   struct judge_ranked ranked;
+  struct judge_totals totals, no_node;
   size_t solve_number, check_number;
   uint8_t values[JUDGE_MOST_PAIRS], levels[JUDGE_MOST_LEVEL_BYTES], verdicts[JUDGE_MOST_TARGETS], strata[JUDGE_MOST_SHAPES];
   uint8_t desk_values[JUDGE_MOST_PAIRS], desk_levels[JUDGE_MOST_LEVEL_BYTES], desk_verdicts[JUDGE_MOST_TARGETS];
@@ -21,7 +22,7 @@ struct result {
 
 static struct result alone[MOST_CASES];
 
-/* all functions on one case, tables cleared before; the second check is of levels that are all 0 */
+/* all functions on one case, tables cleared before; the second check is of levels that are all 0, the totals are those of the last node */
 static void run(const uint8_t *c, size_t n, struct result *r) {
   static const uint8_t zeros[JUDGE_MOST_LEVEL_BYTES];
   memset(r, 0, sizeof *r);
@@ -30,6 +31,8 @@ static void run(const uint8_t *c, size_t n, struct result *r) {
   r->checked = judge_check(c, n, r->values, sizeof r->values, r->levels, sizeof r->levels);
   r->refused = judge_check(c, n, r->values, sizeof r->values, zeros, sizeof zeros);
   r->ranked = judge_rank(c, n, r->strata, sizeof r->strata);
+  r->totals = judge_node_totals(c, n, r->read.nodes - 1);
+  r->no_node = judge_node_totals(c, n, r->read.nodes);
   r->solve_number = solve(c, n, r->desk_values, sizeof r->desk_values, r->desk_levels, sizeof r->desk_levels, r->desk_verdicts, sizeof r->desk_verdicts);
   r->check_number = check(c, n, r->values, sizeof r->values, r->levels, sizeof r->levels);
 }

@@ -28,6 +28,13 @@ pub fn judge_rank(c: &[u8], s: &mut [u8]) -> [usize; 3] {
     rested(interface::judge_rank(c, s))
 }
 
+/// The node is left behind as its bytes, low byte first.
+pub fn judge_node_totals(c: &[u8], node: usize) -> [usize; 4] {
+    let number = node.to_le_bytes();
+    watch("judge_node_totals", &[("case", c), ("node", &number)]);
+    rested(interface::judge_node_totals(c, node))
+}
+
 pub fn solve(c: &[u8], v: &mut [u8], l: &mut [u8], d: &mut [u8]) -> usize {
     watch("solve", &[("case", c), ("values", v), ("levels", l), ("verdicts", d)]);
     rested(interface::solve(c, v, l, d))

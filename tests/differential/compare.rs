@@ -75,16 +75,22 @@ impl Call<'_> {
             self.fail(format!("answer {got:?}, expected {expected:?}"));
         }
     }
+
+    /// What a call answers on a copy of the case, to which it may not write.
+    fn on_lent<T>(&self, call: impl FnOnce(&[u8]) -> T) -> T {
+        let mut lent = Table::new(self.case);
+        let got = call(lent.slice());
+        if !lent.holds(self.case) {
+            self.fail("the case was written to".to_string());
+        }
+        got
+    }
 }
 
 pub fn compare_read(tally: &mut Tally, judge: &Judge, case: &[u8]) {
     let call = Call { name: "judge_read", case, tables: vec![] };
-    let mut lent = Table::new(case);
-    let got = calls::judge_read(lent.slice());
+    let got = call.on_lent(calls::judge_read);
     call.same(got, judge.reading());
-    if !lent.holds(case) {
-        call.fail("the case was written to".to_string());
-    }
     tally.note("read", got[0]);
 }
 
@@ -138,6 +144,27 @@ pub fn compare_rank(tally: &mut Tally, judge: &Judge, case: &[u8], strata: &[u8]
         call.fail(table.differs("strata", &expected));
     }
     tally.note("rank", answer[0]);
+}
+
+pub fn compare_totals(tally: &mut Tally, judge: &mut Judge, case: &[u8], node: usize) -> [usize; 4] {
+    let number = node.to_le_bytes();
+    let call = Call { name: "judge_node_totals", case, tables: vec![("node", &number)] };
+    let got = call.on_lent(|case| calls::judge_node_totals(case, node));
+    call.same(got, judge.node_totals(node));
+    tally.note("totals", got[0]);
+    got
+}
+
+/// Over all nodes of a case that reads the totals add up to those that solving carries.
+pub fn compare_sums(tally: &mut Tally, case: &[u8]) {
+    let call = Call { name: "judge_node_totals", case, tables: vec![] };
+    let totals: Vec<[usize; 4]> = (0..calls::judge_read(case)[2]).map(|node| calls::judge_node_totals(case, node)).collect();
+    let sum = |count: usize| totals.iter().map(|of_node| of_node[count]).sum::<usize>();
+    let [_, _, _, valid, undetermined, ..] = calls::solved(case).0;
+    if [sum(2), sum(3)] != [valid, undetermined] {
+        call.fail(format!("over all nodes {} valid and {} undetermined pairs, solving has {valid} and {undetermined}", sum(2), sum(3)));
+    }
+    totals.iter().for_each(|of_node| tally.note("totals", of_node[0]));
 }
 
 /// Two cases that the documents say are solved alike: the same answer and the same bytes in every table.

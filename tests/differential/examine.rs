@@ -6,6 +6,7 @@ use crate::generator::{without_parked, without_parks, Random};
 use crate::proposals::*;
 use crate::reference::{Case, Judge};
 use crate::tally::Tally;
+use crate::totals::examine_some_nodes;
 
 fn filler(r: &mut Random, length: usize) -> Vec<u8> {
     let (start, step) = (r.byte(), r.byte());
@@ -34,10 +35,11 @@ pub fn examine(tally: &mut Tally, r: &mut Random, case: &[u8], proposals: usize)
         compare_solve(tally, &mut judge, case, &v, &l, &d);
         compare_check(tally, &judge, case, &v, &l);
         compare_rank(tally, &judge, case, &s);
-        return;
+        return examine_some_nodes(tally, r, &mut judge, case);
     }
     examine_tables(tally, r, &mut judge, case);
     examine_proposals(tally, r, &mut judge, case, proposals);
+    examine_some_nodes(tally, r, &mut judge, case);
 }
 
 /// Tables of the exact length, longer, each one short, and of lengths at random.

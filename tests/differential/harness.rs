@@ -14,6 +14,7 @@ mod proposals;
 mod reference;
 mod samples;
 mod tally;
+mod totals;
 mod watch;
 
 use compare::*;
@@ -46,6 +47,11 @@ fn replay(file: &str) -> Result<String, String> {
     compare_solve(&mut tally, &mut judge, &case, &values, &levels, &table("verdicts", targets));
     compare_check(&mut tally, &judge, &case, &values, &levels);
     compare_rank(&mut tally, &judge, &case, &table("strata", shapes));
+    // a node that isn't stored is each of them, and one that is none
+    let asked = part("node").map_or((0..=nodes).collect(), |bytes| vec![bytes.iter().rev().fold(0, |node, byte| node << 8 | *byte as usize)]);
+    for node in asked {
+        compare_totals(&mut tally, &mut judge, &case, node);
+    }
     Ok(format!("differential: {file}: all {} calls agree", tally.calls))
 }
 

@@ -8,6 +8,8 @@ struct Solution([usize; 8]);
 struct Checked([usize; 4]);
 #[repr(C)]
 struct Ranked([usize; 3]);
+#[repr(C)]
+struct Totals([usize; 4]);
 
 #[rustfmt::skip]
 mod foreign {
@@ -19,6 +21,7 @@ mod foreign {
         pub(super) fn judge_solve(c: *const u8, cn: usize, v: *mut u8, vn: usize, l: *mut u8, ln: usize, d: *mut u8, dn: usize) -> Solution;
         pub(super) fn judge_check(c: *const u8, cn: usize, v: *const u8, vn: usize, l: *const u8, ln: usize) -> Checked;
         pub(super) fn judge_rank(c: *const u8, cn: usize, s: *mut u8, sn: usize) -> Ranked;
+        pub(super) fn judge_node_totals(c: *const u8, cn: usize, node: usize) -> Totals;
     }
 }
 
@@ -36,6 +39,10 @@ pub fn judge_check(c: &[u8], v: &[u8], l: &[u8]) -> [usize; 4] {
 
 pub fn judge_rank(c: &[u8], s: &mut [u8]) -> [usize; 3] {
     unsafe { foreign::judge_rank(c.as_ptr(), c.len(), s.as_mut_ptr(), s.len()).0 }
+}
+
+pub fn judge_node_totals(c: &[u8], node: usize) -> [usize; 4] {
+    unsafe { foreign::judge_node_totals(c.as_ptr(), c.len(), node).0 }
 }
 
 pub fn solve(c: &[u8], v: &mut [u8], l: &mut [u8], d: &mut [u8]) -> usize {

@@ -1,4 +1,4 @@
-//! Samples held to the library alone: those of document 01, as document 02 has changed them, and some of rules inside rules and of parked edges, worked out by hand; every expected number is the documents'.
+//! Samples held to the library alone: those of document 01, as document 02 has changed them, and some of rules inside rules, of parked edges and of totals by fitting, worked out by hand; every expected number is the documents'.
 
 use crate::calls::*;
 use crate::generator::{without_parked, without_parks};
@@ -74,6 +74,7 @@ pub fn run() -> usize {
     refused_parts(&mut held);
     solved_parks(&mut held);
     refused_parks(&mut held);
+    totals(&mut held);
     held.0
 }
 
@@ -325,4 +326,27 @@ fn refused_parks(held: &mut Held) {
     many("the 1,025th no node", 1023, "03 00 02 00 00 00, FF", refused(4, 6147));
     many("the 1,025th cut", 1023, "03 00 00 00 01", refused(3, 6147));
     many("the 1,024th no edge", 1022, "03 00 01 00 00 00, FF", refused(20, 6141));
+}
+
+// ---- Totals by fitting (document 02, point 5)
+
+fn totals(held: &mut Held) {
+    let mut of = |name: &str, text: &str, node: usize, expected: [usize; 4]| held.same(name, judge_node_totals(&hex(text), node), expected);
+    for (node, valid) in [3, 3, 2, 2].into_iter().enumerate() {
+        of("ring, totals", RING, node, [0, 0, valid, 0]);
+        of("nested ring, totals", NESTED_RING, node, [0, 0, valid, 0]);
+    }
+    for none in [4, 5, 256, 1 << 16, 1 << 32, usize::MAX] {
+        of("ring, no node", RING, none, [5, none, 0, 0]);
+    }
+    let clash = "01 01 00, 02 00 00 00 00 00, 24 01, 24 00, FF";
+    of("clash, totals", clash, 0, [0, 0, 0, 2]);
+    of("a top and a not of itself", "01 02 00, 20, 24 01, FF", 1, [0, 0, 1, 1]);
+    of("no shapes, totals", "01 02 00, FF", 1, [0, 0, 0, 0]);
+    of("no nodes, totals", "01 00 00, 20, FF", 0, [5, 0, 0, 0]);
+    of("empty input, totals", "", 0, [3, 0, 0, 0]);
+    of("empty input, no node", "", 7, [3, 0, 0, 0]);
+    of("reading's 5 first", "01 01 00, 20, 30 00 01 00, FF", 7, [5, 4, 0, 0]);
+    of("8 before 5", "01 01 00, FF 00", 1, [8, 4, 0, 0]);
+    of("9 before 5", "01 01 00, 24 01, FF", 1, [9, 3, 0, 0]);
 }

@@ -30,6 +30,12 @@ pub unsafe extern "C" fn judge_rank(c: *const u8, cn: usize, s: *mut u8, sn: usi
 }
 
 #[no_mangle]
+pub unsafe extern "C" fn judge_node_totals(c: *const u8, cn: usize, node: usize) -> Row<4> {
+    faults::stray_by_node(c, cn);
+    Row(faults::node_totals(from_raw_parts(c, cn), node))
+}
+
+#[no_mangle]
 pub unsafe extern "C" fn solve(c: *const u8, cn: usize, v: *mut u8, vn: usize, l: *mut u8, ln: usize, d: *mut u8, dn: usize) -> usize {
     faults::number(judge_solve(c, cn, v, vn, l, ln, d, dn).0[0])
 }

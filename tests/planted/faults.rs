@@ -9,7 +9,7 @@ fn fault() -> String {
 
 /// The place of a refusal one too high.
 fn misplaced<const N: usize>(mut answer: [usize; N]) -> [usize; N] {
-    answer[1] += (answer[0] != 0) as usize;
+    answer[1] = answer[1].wrapping_add((answer[0] != 0) as usize);
     answer
 }
 
@@ -112,7 +112,7 @@ fn leniently(case: &Case, v: &[u8], l: &[u8], justified: fn(usize, usize) -> boo
         }
     }
     let valid = case.targets.iter().filter(|(s, a)| v[case.pair(*s, *a)] == 2).count();
-    [0, 0, v.iter().filter(|value| **value == 1).count(), valid]
+    [0, 0, of_value(v, 1), valid]
 }
 
 pub fn rank(case: &[u8], strata: &mut [u8]) -> [usize; 3] {
@@ -131,6 +131,43 @@ pub fn rank(case: &[u8], strata: &mut [u8]) -> [usize; 3] {
     answer
 }
 
+pub fn node_totals(case: &[u8], node: usize) -> [usize; 4] {
+    let mut judge = Judge::new(case);
+    let mut answer = judge.node_totals(node);
+    let [number, _, nodes, ..] = judge.reading();
+    let solved = answer[0] == 0;
+    match fault().as_str() {
+        "place" => answer = misplaced(answer),
+        "totals-count" if !solved => answer[2] = 1,
+        // the pairs of the shape of that number
+        "by-shape" if solved => {
+            let row: Vec<u8> = judge.solved().values.chunks(nodes).nth(node).map_or(vec![], <[u8]>::to_vec);
+            answer = [0, 0, of_value(&row, 2), of_value(&row, 1)];
+        }
+        "written-alone" if solved => {
+            let written = judge.read.as_ref().unwrap().written.len();
+            let of_node: Vec<u8> = judge.solved().values.chunks(nodes).take(written).map(|row| row[node]).collect();
+            answer = [0, 0, of_value(&of_node, 2), of_value(&of_node, 1)];
+        }
+        "all-possible" => answer[3] += answer[2],
+        "node-count" if number == 0 && node == nodes => answer = [0; 4],
+        "node-cut" => answer = judge.node_totals(node & 0xFFFF),
+        // by the count of the case's first command, whatever comes after it
+        "5-first" if case.len() > 2 && node >= u16::from_le_bytes([case[1], case[2]]).into() => answer = [5, node, 0, 0],
+        "shared-totals" if solved => {
+            let mut counts = [answer[2] as u8, answer[3] as u8];
+            pass_through_shared(&mut counts);
+            answer = [0, 0, counts[0].into(), counts[1].into()];
+        }
+        _ => {}
+    }
+    answer
+}
+
+fn of_value(values: &[u8], value: u8) -> usize {
+    values.iter().filter(|v| **v == value).count()
+}
+
 /// The number that the desk's calls answer.
 pub fn number(number: usize) -> usize {
     match fault().as_str() {
@@ -146,6 +183,16 @@ pub unsafe fn stray(case: *const u8, length: usize, values: *mut u8, values_leng
         "reads-before" => drop(case.sub(1).read_volatile()),
         "writes-past" => values.add(values_length).write_volatile(0),
         "crash" => std::process::abort(),
+        _ => {}
+    }
+}
+
+/// The same of a call with a case alone.
+pub unsafe fn stray_by_node(case: *const u8, length: usize) {
+    match fault().as_str() {
+        "totals-past" => drop(case.add(length).read_volatile()),
+        "totals-before" => drop(case.sub(1).read_volatile()),
+        "totals-crash" => std::process::abort(),
         _ => {}
     }
 }

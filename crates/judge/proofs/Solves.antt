@@ -27,11 +27,12 @@ use Rattle.reader.specs.Parsing.{ParsedAs}
 use Rattle.rules.proofs.Sets.{has-setIn}
 use Rattle.semantics.specs.declared.answers.Solution.{Solution}
 use Rattle.semantics.specs.Operations.{orElse, refuseUnless, tooShort, counted, written, tally, levelBytes, solution, solveFault, solveRefusal, solveAnswer, solveValues, solveLevels, solveVerdicts}
-use Rattle.semantics.specs.Solving.{solvedT, solvedP, valuesOf, solvedValues, levelsOf, solvedLevels, targetValues, verdicts}
+use Rattle.semantics.specs.Solving.{solvedT, solvedP, solvedValues, levelsOf, solvedLevels, targetValues, verdicts}
 use Rattle.semantics.specs.Stability.{nextSet}
 use Rattle.semantics.specs.Values.{pairCount, pairOf}
 use Rattle.semantics.proofs.Pairs.{pair-below}
 use Rattle.semantics.proofs.Kernel.{rule-system}
+use Rattle.semantics.proofs.Solved.{solved-length}
 use Rattle.semantics.proofs.Refusing.{orElse-none, unless-none, written-refused, length-levelBytes}
 use Rattle.solver.specs.Rounding.{SetsSolved}
 use Rattle.values.specs.Tables.{valuesIn, ValuesWritten, VerdictsWritten}
@@ -100,10 +101,6 @@ rests c = solved-stable (pairCount c) (nextSet c) (rule-system c)
 
 -- how long what solving writes is
 module _ (c : Case) where
-  values-long : length (solvedValues c) ≡ pairCount c
-  unfolding solvedValues valuesOf
-  values-long = length-made _ (pairCount c)
-
   levels-long : length (levelBytes (solvedLevels c)) ≡ 2 * pairCount c
   unfolding solvedLevels levelsOf
   levels-long = length-levelBytes (solvedLevels c) ∙ ap (λ n. 2 * n) (length-made _ (pairCount c))
@@ -118,7 +115,7 @@ unfolding verdicts targetValues all
 verdicts-read c sound later =
     map-where (c .targets) (λ t. ltb (t .shape .0) (length (c .shapes))) (λ t. ltb (t .node .0) (c .nodes)) _ _
     (λ t a b. List·getD-append (solvedValues c) later 0 (pairOf c (t .shape .0) (t .node .0))
-    (omega (arith, values-long c, pair-below c (t .shape .0) (t .node .0) (ltb-true _ _ a) (ltb-true _ _ b))))
+    (omega (arith, solved-length c, pair-below c (t .shape .0) (t .node .0) (ltb-true _ _ a) (ltb-true _ _ b))))
     (sound .targets-named) (sound .targets-known)
   where
     map-where : {A B : Type 0} (l : List A) (s t : A → Bool) (f h : A → B) → ((x : A) → s x ≡ true → t x ≡ true → f x ≡ h x) → all l s ≡ true → all l t ≡ true → map f l ≡ map h l
@@ -129,7 +126,7 @@ verdicts-read c sound later =
         rw (e x (p .0) (q .0), map-where l s t f h e (p .1) (q .1))
 
 module _ (counts : Counts) (rows : List ℕ) {valid possible : List ℕ} {answer : ℕ} (k : SetsSolved (caseIn counts rows) (wordsOf counts) valid possible answer) where
-  values-solved : valuesIn counts valid possible ≡ solvedValues (caseIn counts rows)
+  pub values-solved : valuesIn counts valid possible ≡ solvedValues (caseIn counts rows)
   unfolding solvedValues
   values-solved =
       let c = caseIn counts rows in
@@ -144,7 +141,7 @@ module _ (counts : Counts) (rows : List ℕ) {valid possible : List ℕ} {answer
       let c = caseIn counts rows in
       record {
         counted = k .counted;
-        values-left = v .left ∙ rw (values-solved, values-long c, pairs-in counts rows);
+        values-left = v .left ∙ rw (values-solved, solved-length c, pairs-in counts rows);
         levels-left = rw (levels-long c) (rw (k .valid-set, k .possible-set) at (l .right (rw (k .valid-set, k .possible-set) (rests c))));
       }
 
@@ -173,7 +170,7 @@ unfolding solution counted
 case-solved counts rows values levels verdict t ea eb ex ey ez =
     let c = caseIn counts rows in
     let n = counts .shapes * counts .nodes in
-    let vl = values-long c ∙ pairs-in counts rows in
+    let vl = solved-length c ∙ pairs-in counts rows in
     let dl = verdicts-long c ∙ targets-count counts rows in
     record {
       answer =

@@ -2,3 +2,4 @@
 pub mod Solved
 pub mod Checked
 pub mod Ranked
+pub mod Totalled

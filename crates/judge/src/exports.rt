@@ -2,14 +2,17 @@
 use crate::checking;
 use crate::ranking;
 use crate::solving;
+use crate::totalling;
 use cases::answers::Reading;
 use reader::reading::read;
 use semantics::answers::Checked;
 use semantics::answers::Ranked;
 use semantics::answers::Solution;
+use semantics::answers::Totals;
 ghost use mathlib.Core.Path.{_≡_};
 ghost use Rattle.cases.specs.Reading.{reading};
 ghost use Rattle.semantics.specs.Operations.{checkAnswer};
+ghost use Rattle.semantics.specs.Totals.{totalsAnswer};
 ghost use Rattle.judge.specs.Solved.{SolvedAs, NumberedAs};
 ghost use Rattle.judge.specs.Ranked.{CaseRanked};
 
@@ -67,4 +70,11 @@ pub extern "C" fn judge_rank(case: &[u8], strata: &mut [u8]) -> Ranked
     ensures { λ r. ⌜ CaseRanked (now (case .entry)) (now (strata .entry)) r (now (strata .exit)) ⌝ }
 {
     ranking::rank(case, strata)
+}
+
+#[no_mangle]
+pub extern "C" fn judge_node_totals(case: &[u8], node: usize) -> Totals
+    ensures { λ r. ⌜ r ≡ totalsAnswer (now (case .entry)) node ⌝ }
+{
+    totalling::node_totals(case, node)
 }

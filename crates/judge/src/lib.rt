@@ -1,5 +1,6 @@
-// The judge's entry points: solving, checking and ranking, one equation each (reading is `reader::reading::read`); and the exports for C.
+// The judge's entry points: solving, checking, ranking and totals by fitting, one equation each (reading is `reader::reading::read`); and the exports for C.
 pub mod checking;
 pub mod exports;
 pub mod ranking;
 pub mod solving;
+pub mod totalling;

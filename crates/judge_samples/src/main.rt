@@ -1,7 +1,8 @@
-// Solves, checks and ranks the samples of document 01 and meets each refusal 10 to 17, and prints what the entry points answer.
+// Solves, checks and ranks the samples of document 01, totals them by node, and meets each refusal 10 to 17, and prints what the entry points answer.
 use judge::checking::check;
 use judge::ranking::rank;
 use judge::solving::solve;
+use judge::totalling::node_totals;
 use libc::STDOUT_FILENO;
 
 fn print(text: &[u8]) {
@@ -49,6 +50,18 @@ fn show_rank(name: &[u8], case: &[u8], strata: &mut [u8]) {
     number(r.number);
     number(r.place);
     number(r.strata);
+    print(b"\n");
+}
+
+// The totals of a node: number, place, valid, undetermined.
+fn show_totals(name: &[u8], case: &[u8], node: usize) {
+    let r = node_totals(case, node);
+    print(name);
+    print(b":");
+    number(r.number);
+    number(r.place);
+    number(r.valid);
+    number(r.undetermined);
     print(b"\n");
 }
 
@@ -169,6 +182,19 @@ fn rank_cases(ring: &[u8], clash: &[u8]) {
 }
 
 // The ring case, in which fittings 2 and 3 relay only for each other, and the case of two shapes that deny each other.
+// Each node of the ring, a node of the clash, and what is refused.
+fn total(ring: &[u8], clash: &[u8]) {
+    show_totals(b"ring, node 0", ring, 0);
+    show_totals(b"ring, node 1", ring, 1);
+    show_totals(b"ring, node 2", ring, 2);
+    show_totals(b"ring, node 3", ring, 3);
+    show_totals(b"clash, node 0", clash, 0);
+    show_totals(b"5, node 4", ring, 4);
+    show_totals(b"5, the largest number", ring, 0xffff_ffff_ffff_ffff);
+    show_totals(b"5, no nodes", b"\x01\x00\x00\xff", 0);
+    show_totals(b"3 before 5", b"", 7);
+}
+
 fn main() {
     let ring =
         b"\x01\x04\x00\x02\x00\x01\x00\x00\x00\x02\x00\x02\x00\x03\x00\x02\x00\x03\x00\x02\x00\x02\x01\x00\x00\x00\x00\x10\x00\x10\x01\x20\x27\x01\x01\x00\x27\x01\x00\x03\x23\x01\x02\x24\x03\x30\x03\x01\x00\x30\x03\x02\x00\xff";
@@ -178,6 +204,7 @@ fn main() {
     solve_unlinked();
     solve_nested();
     solve_parked();
+    total(ring, clash);
     solve_short(ring);
     check_proposals(ring, clash);
     check_unfit(clash);

@@ -10,3 +10,4 @@ pub mod Paths
 pub mod Denial
 pub mod Undenied
 pub mod Refusing
+pub mod Totals

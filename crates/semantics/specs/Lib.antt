@@ -1,4 +1,4 @@
--- What a case means, in the order of document 01: paths, values, levels and stability, solving, denial, and the four operations.
+-- What a case means, in the order of document 01: paths, values, levels and stability, solving, denial, the four operations, and totals by fitting.
 pub mod Paths
 pub mod Values
 pub mod Nested
@@ -8,3 +8,4 @@ pub mod Stability
 pub mod Solving
 pub mod Denial
 pub mod Operations
+pub mod Totals

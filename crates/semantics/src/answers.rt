@@ -1,4 +1,4 @@
-// What solving, checking and ranking answer: number and place of the refusal, 0 for none, then the counts, 0 on a refusal.
+// What solving, checking, ranking and totals by fitting answer: number and place of the refusal, 0 for none, then the counts, 0 on a refusal.
 #[repr(C)]
 pub struct Solution {
     pub number: usize,
@@ -24,4 +24,12 @@ pub struct Ranked {
     pub number: usize,
     pub place: usize,
     pub strata: usize,
+}
+
+#[repr(C)]
+pub struct Totals {
+    pub number: usize,
+    pub place: usize,
+    pub valid: usize,
+    pub undetermined: usize,
 }

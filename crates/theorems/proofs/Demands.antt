@@ -45,7 +45,7 @@ case-limited s = outcome-limited s
 -- ---- Demand 1: a fit case with tables long enough is solved; a refusal writes nothing; otherwise the named entries are written and no more
 
 -- solving refuses nothing exactly where the input reads and the tables are long enough
-solve-none : (s vt lt dt : List ℕ)
+pub solve-none : (s vt lt dt : List ℕ)
     → (solveAnswer s vt lt dt .number ≡ 0) ↔ (Reads s × ((pairCount (caseOf s) ≤ length vt) × ((2 * pairCount (caseOf s) ≤ length lt) × (length (caseOf s .targets) ≤ length dt))))
 unfolding solveAnswer solution solveRefusal solveFault
 solve-none s vt lt dt =

@@ -3,3 +3,4 @@ pub mod Demands
 pub mod Ranking
 pub mod Samples
 pub mod Nested
+pub mod Totals

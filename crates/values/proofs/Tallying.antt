@@ -1,4 +1,4 @@
--- The pairs of targets, their verdicts put into a table, and tallies of bytes and of targets. Assumes nothing.
+-- The pairs of targets, their verdicts put into a table, and tallies of bytes, of targets and of a node's pairs. Assumes nothing.
 use Prim.Native.Nat.{ℕ, _+_, _*_, _≤_, _<_}
 use native.Mathlib.Omega.{arith}
 use mathlib.Core.Path.{_≡_, refl, sym, ap, _∙_}
@@ -15,14 +15,16 @@ use Rattle.fixpoint.specs.Entries.{Put}
 use Rattle.fixpoint.specs.Lists.{upTo, from, all, count}
 use Rattle.fixpoint.proofs.Entries.{put-none, put-more, put-all}
 use Rattle.fixpoint.proofs.Lists.{length-made, getD-made, made-more, count-append, count-le-length, all-map, all-upTo-in}
+use Rattle.cases.specs.Counts.{sizeOf}
 use Rattle.cases.specs.Rows.{CaseIn, caseIn, targetIn}
 use Rattle.cases.specs.declared.command.Target.{Target}
 use Rattle.cases.specs.declared.counts.Counts.{Counts}
+use Rattle.cases.specs.declared.counts.Size.{Size}
 use Rattle.cases.proofs.InRows.{nodes-in, shapes-in, targets-in}
 use Rattle.semantics.specs.Operations.{tally}
 use Rattle.semantics.specs.Solving.{targetValues}
 use Rattle.semantics.specs.Values.{pairOf}
-use Rattle.values.specs.Tables.{targetPair, VerdictsWritten}
+use Rattle.values.specs.Tables.{valueIn, nodeValues, targetPair, VerdictsWritten}
 
 -- Target i of a sound case is one of its pairs: it passes each test that all targets pass
 passes : (counts : Counts) (rows : List ℕ) (test : Target → Bool) → all (caseIn counts rows .targets) test ≡ true
@@ -85,6 +87,14 @@ module _ {counts : Counts} {rows values t : List ℕ} where
         let e : i ≡ counts .targets = omega arith in
         record { left = rw (verdicts-are counts rows values) (put-all room (rw e at (r .put))) }
 
+-- The value of shape s at node a
+abbrev pub nodeValueAt : Counts → ℕ → List ℕ → List ℕ → ℕ → ℕ
+nodeValueAt counts a valid possible s = valueIn (sizeOf counts) valid possible (s * counts .nodes + a)
+
+pub node-value : (counts : Counts) (a : ℕ) (valid possible : List ℕ) (s : ℕ) {size : Size} {x : ℕ} → size ≡ sizeOf counts
+    → x ≡ valueIn size valid possible (s * size .nodes + a) → x ≡ nodeValueAt counts a valid possible s
+node-value counts a valid possible s e q = rw e at q
+
 -- m of the first i of n numbers of f are v
 pub record Tallied (f : ℕ → ℕ) (v n i m : ℕ) : Type 0 where
   pub most : i ≤ n
@@ -125,3 +135,8 @@ bytes-tallied bytes {v} {n} room h r = tallied-done h r ∙ ap (tally v) (first-
 pub targets-tallied : (counts : Counts) (rows values : List ℕ) {v i m : ℕ} → counts .targets ≤ i → Tallied (verdictAt counts rows values) v (counts .targets) i m
     → m ≡ tally v (targetValues (caseIn counts rows) values)
 targets-tallied counts rows values {v} h r = tallied-done h r ∙ ap (tally v) (sym (verdicts-are counts rows values))
+
+pub node-tallied : (counts : Counts) (a : ℕ) (valid possible : List ℕ) {v i m : ℕ} → counts .shapes ≤ i → Tallied (nodeValueAt counts a valid possible) v (counts .shapes) i m
+    → m ≡ tally v (nodeValues counts a valid possible)
+unfolding nodeValues
+node-tallied counts a valid possible h r = tallied-done h r

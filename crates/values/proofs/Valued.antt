@@ -1,15 +1,16 @@
 -- The values of pairs put into a table, node by node and row by row, and that they are those of two sets of pairs. Assumes nothing.
 use Prim.Native.Nat.{ℕ, _+_, _*_, _≤_, _<_}
 use native.Mathlib.Omega.{arith}
-use mathlib.Core.Path.{_≡_, _∙_}
+use mathlib.Core.Path.{_≡_, sym, _∙_}
 use mathlib.Core.Bool.{Bool, cond}
-use mathlib.Core.List.{List}
-use lib.Arith.{digits-div, digits-mod}
-use lib.ListN.{length, set}
+use mathlib.Core.List.{List, map}
+use lib.Arith.{digits-div, digits-mod, digits-lt}
+use lib.ListN.{length, getD, set}
 use Rattle.fixpoint.specs.Entries.{Put}
+use Rattle.fixpoint.specs.Lists.{upTo}
 use Rattle.fixpoint.specs.Sets.{has}
 use Rattle.fixpoint.proofs.Entries.{put-none, put-more, put-join, put-all, row-after}
-use Rattle.fixpoint.proofs.Lists.{made-same}
+use Rattle.fixpoint.proofs.Lists.{made-same, getD-made}
 use Rattle.bitset.specs.Words.{member, Row}
 use Rattle.bitset.proofs.Members.{rows-apart}
 use Rattle.cases.specs.Case.{Case}
@@ -18,10 +19,10 @@ use Rattle.cases.specs.declared.counts.Counts.{Counts}
 use Rattle.cases.specs.declared.counts.Size.{Size}
 use Rattle.semantics.specs.Solving.{valuesOf}
 use Rattle.semantics.specs.Values.{pairCount, shapeOf, nodeOf}
-use Rattle.values.specs.Tables.{valueIn, valuesIn, ValuesWritten}
+use Rattle.values.specs.Tables.{nodeValues, valueIn, valuesIn, ValuesWritten}
 
 -- The value of node a of shape s
-value-is : (size : Size) (valid possible : List ℕ) (s a : ℕ) {v p : Bool} {x : ℕ} → a < size .nodes
+pub value-is : (size : Size) (valid possible : List ℕ) (s a : ℕ) {v p : Bool} {x : ℕ} → a < size .nodes
     → v ≡ member valid (size .words) s a → p ≡ member possible (size .words) s a → x ≡ cond v 2 (cond p 1 0) → x ≡ valueIn size valid possible (s * size .nodes + a)
 unfolding valueIn
 value-is size valid possible s a h e f q = q ∙ rw (e, f, digits-div s h, digits-mod s h)
@@ -36,12 +37,12 @@ module _ {size : Size} {valid possible : List ℕ} {s : ℕ} {t : List ℕ} wher
   row-none = record { most = omega arith; put = put-none (omega arith) }
 
   module _ {a : ℕ} {t′ : List ℕ} where
-    pub row-more : {v p : Bool} (x : ℕ) → RowTo size valid possible s a t t′ → x ≡ cond v 2 (cond p 1 0) → v ≡ member valid (size .words) s a
-        → p ≡ member possible (size .words) s a → s * size .nodes + size .nodes ≤ length t → a < size .nodes
+    pub row-more : (x : ℕ) → RowTo size valid possible s a t t′ → x ≡ valueIn size valid possible (s * size .nodes + a)
+        → s * size .nodes + size .nodes ≤ length t → a < size .nodes
         → RowTo size valid possible s (a + 1) t (set t′ (s * size .nodes + a) x)
-    row-more x r q e f room h =
+    row-more x r q room h =
         let o : s * size .nodes + (a + 1) ≡ s * size .nodes + a + 1 = omega arith in
-        record { most = omega arith; put = rw o (put-more x (omega (arith, r .put .long)) (omega arith) (value-is size valid possible s a h e f q) (r .put)) }
+        record { most = omega arith; put = rw o (put-more x (omega (arith, r .put .long)) (omega arith) q (r .put)) }
 
     pub row-done : size .nodes ≤ a → RowTo size valid possible s a t t′ → Put (valueIn size valid possible) (s * size .nodes) (s * size .nodes + size .nodes) t t′
     row-done h r = let e : a ≡ size .nodes = omega arith in rw e at (r .put)
@@ -55,6 +56,9 @@ pub record RowsTo (counts : Counts) (valid possible : List ℕ) (s : ℕ) (t t�
 module _ {counts : Counts} {size : Size} (e : size ≡ sizeOf counts) (fit : Fit counts) where
   pub row-wide : size .nodes ≤ 64 * size .words
   row-wide = rw e (fit .wide)
+
+  pub node-there : {a : ℕ} → a < counts .nodes → a < size .nodes
+  node-there h = rw e h
 
   module _ {s : ℕ} (h : s < counts .shapes) where
     pub row-there : {t : List ℕ} → 64 ≤ length t → Row t (size .words) s
@@ -90,3 +94,11 @@ unfolding valuesIn valueIn valuesOf shapeOf nodeOf
 values-are c counts valid possible e f T P t p =
     let n = pairs-are c counts e f in
     rw n (made-same _ _ (counts .shapes * counts .nodes) (λ k h. let b : k < pairCount c = omega arith in rw (t k b, p k b, e)))
+
+-- and those of a node stand among them
+pub node-values-are : (counts : Counts) (a : ℕ) (valid possible : List ℕ) → a < counts .nodes
+    → nodeValues counts a valid possible ≡ map (λ s. getD (valuesIn counts valid possible) (s * counts .nodes + a) 0) (upTo (counts .shapes))
+unfolding nodeValues valuesIn
+node-values-are counts a valid possible h =
+    made-same _ _ (counts .shapes)
+    (λ s b. sym (getD-made (valueIn (sizeOf counts) valid possible) (counts .shapes * counts .nodes) (s * counts .nodes + a) 0 (digits-lt b h)))

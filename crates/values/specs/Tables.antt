@@ -22,6 +22,10 @@ valueIn size valid possible k =
 unfoldable pub valuesIn : Counts → List ℕ → List ℕ → List ℕ
 valuesIn counts valid possible = map (valueIn (sizeOf counts) valid possible) (upTo (counts .shapes * counts .nodes))
 
+-- the values of a node's pairs, shape by shape
+unfoldable pub nodeValues : Counts → ℕ → List ℕ → List ℕ → List ℕ
+nodeValues counts a valid possible = map (λ s. valueIn (sizeOf counts) valid possible (s * counts .nodes + a)) (upTo (counts .shapes))
+
 -- the pair of target i
 unfoldable pub targetPair : Counts → List ℕ → ℕ → ℕ
 targetPair counts rows i = targetIn rows i .shape .0 * counts .nodes + targetIn rows i .node .0

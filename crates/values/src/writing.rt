@@ -3,6 +3,7 @@ use bitset::rows::is_member;
 use cases::counts::Counts;
 use cases::counts::Size;
 use cases::counts::size_of;
+use cases::numbers::Node;
 use cases::numbers::Shape;
 use cases::rows::target_in;
 use semantics::value::Value;
@@ -29,6 +30,20 @@ pub fn value_of(valid: bool, possible: bool) -> Value
     }
 }
 
+// The value of shape s at node a.
+pub fn value_at(size: Size, s: Shape, a: Node, valid: &[u64], possible: &[u64]) -> Value
+    requires { ⌜ size .nodes ≤ 64 * size .words ⌝ }
+    requires { ⌜ a .0 < size .nodes ⌝ }
+    requires { ⌜ Row (now valid) (size .words) (s .0) ⌝ }
+    requires { ⌜ Row (now possible) (size .words) (s .0) ⌝ }
+    ensures { λ r. ⌜ r .0 ≡ valueIn size (now (valid .entry)) (now (possible .entry)) (s .0 * size .nodes + a .0) ⌝ }
+{
+    value_of(
+        is_member(valid, size.words, s.0, a.0),
+        is_member(possible, size.words, s.0, a.0),
+    )
+}
+
 // Writes the values of shape s. Those of the nodes below a are written.
 fn write_row(size: Size, s: Shape, valid: &[u64], possible: &[u64], values: &mut [u8])
     requires { ⌜ size .nodes ≤ 64 * size .words ⌝ }
@@ -40,10 +55,7 @@ fn write_row(size: Size, s: Shape, valid: &[u64], possible: &[u64], values: &mut
     let base = s.0 * size.nodes;
     let mut a = 0;
     while a < size.nodes {
-        let value = value_of(
-            is_member(valid, size.words, s.0, a),
-            is_member(possible, size.words, s.0, a),
-        );
+        let value = value_at(size, s, Node(a), valid, possible);
         values[base + a] = value.0;
         a += 1;
     }

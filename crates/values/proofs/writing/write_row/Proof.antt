@@ -39,8 +39,6 @@ write-row-spec =
     (λ c. search needs)
     loop-holds
     (λ c κs. search needs)
-    (λ c κs. search needs)
-    (λ c κs. search needs)
     (λ c. search needs)
     slice-write-values
     (λ c. search needs)
