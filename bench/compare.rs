@@ -23,6 +23,7 @@ struct Library {
     check: unsafe extern "C" fn(*const u8, usize, *const u8, usize, *const u8, usize) -> Answer<4>,
     solve: unsafe extern "C" fn(*const u8, usize, *mut u8, usize, *mut u8, usize, *mut u8, usize) -> Answer<8>,
     /// what an older library may lack
+    old_check: Option<unsafe extern "C" fn(*const u8, usize, *const u8, usize) -> Answer<5>>,
     totals: Option<unsafe extern "C" fn(*const u8, usize, usize) -> Answer<4>>,
 }
 
@@ -42,13 +43,14 @@ impl Library {
                 rank: std::mem::transmute(find("judge_rank")),
                 check: std::mem::transmute(find("judge_check")),
                 solve: std::mem::transmute(find("judge_solve")),
+                old_check: std::mem::transmute(look_for("judge_check_supported")),
                 totals: std::mem::transmute(look_for("judge_node_totals")),
             }
         }
     }
 }
 
-const CALLS: [&str; 5] = ["read", "rank", "check", "solve", "totals"];
+const CALLS: [&str; 6] = ["read", "rank", "check", "old check", "solve", "totals"];
 
 struct Tables {
     values: [u8; 4096],
@@ -57,7 +59,7 @@ struct Tables {
     strata: [u8; 32],
 }
 
-/// One call on the case, the check being of what the last solve wrote and the totals those of node 0. None where the library lacks it.
+/// One call on the case, the checks being of what the last solve wrote and the totals those of node 0. None where the library lacks it.
 fn call(library: &Library, name: &str, case: &[u8], t: &mut Tables) -> Option<usize> {
     let (c, n) = (case.as_ptr(), case.len());
     unsafe {
@@ -65,6 +67,7 @@ fn call(library: &Library, name: &str, case: &[u8], t: &mut Tables) -> Option<us
             "read" => (library.read)(c, n).0[0],
             "rank" => (library.rank)(c, n, t.strata.as_mut_ptr(), 32).0[2],
             "check" => (library.check)(c, n, t.values.as_ptr(), 4096, t.levels.as_ptr(), 8192).0[0],
+            "old check" => (library.old_check?)(c, n, t.values.as_ptr(), 4096).0[0],
             "totals" => (library.totals?)(c, n, 0).0[0],
             _ => (library.solve)(c, n, t.values.as_mut_ptr(), 4096, t.levels.as_mut_ptr(), 8192, t.verdicts.as_mut_ptr(), 256).0[2],
         })

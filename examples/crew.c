@@ -1,4 +1,4 @@
-/* Solves the ring case, checks the solution, ranks the shapes, and prints the verdicts and the crew sheet. Build it as tests/example/run does. */
+/* Solves the ring case, checks the solution, ranks the shapes, and prints the verdicts and the crew sheet; then it shows what the old code takes. Build it as tests/example/run does. */
 #include <stdio.h>
 
 #include "judge.h"
@@ -30,6 +30,22 @@ static size_t print_sheet(const uint8_t *bytes, size_t length, size_t fittings)
     return 0;
 }
 
+/* Fittings 2 and 3 proposed as linked, by nothing but each other. The newer code refuses this whatever the levels; these are some. */
+static const uint8_t vouched[] = {2, 2, 2, 2, 2, 0, 0, 0, 0, 2, 2, 2, 2, 2, 2, 2, 0, 0, 0, 0};
+static const uint8_t vouched_levels[] = {
+    1, 0, 1, 0, 1, 0, 1, 0, 2, 0, 0, 0, 0, 0, 0, 0, 0, 0, 4, 0, 9, 0, 9, 0, 3, 0, 5, 0, 5, 0, 5, 0, 0, 0, 0, 0, 0, 0, 0, 0,
+};
+
+/* The same proposal under both codes. Answers what the old code has against it. */
+static size_t print_codes(void)
+{
+    struct judge_checked newer = judge_check(ring, sizeof ring, vouched, sizeof vouched, vouched_levels, sizeof vouched_levels);
+    printf("vouched ring, newer code: %zu at %zu\n", newer.number, newer.place);
+    struct judge_checked_old old = judge_check_supported(ring, sizeof ring, vouched, sizeof vouched);
+    printf("vouched ring, code %zu: %zu, %zu valid targets\n", old.code, old.number, old.valid);
+    return old.number;
+}
+
 int main(void)
 {
     uint8_t values[JUDGE_MOST_PAIRS];
@@ -54,6 +70,7 @@ int main(void)
 
     struct judge_checked checked = judge_check(ring, sizeof ring, values, sizeof values, levels, sizeof levels);
     printf("check: %zu, %zu valid targets\n", checked.number, checked.valid);
+    size_t codes = print_codes();
     struct judge_ranked ranked = judge_rank(ring, sizeof ring, strata, sizeof strata);
     printf("rank: %zu, %zu strata\n", ranked.number, ranked.strata);
 
@@ -61,5 +78,5 @@ int main(void)
     size_t again = solve(ring, sizeof ring, values, sizeof values, levels, sizeof levels, verdicts, sizeof verdicts);
     size_t taken = check(ring, sizeof ring, values, sizeof values, levels, sizeof levels);
     printf("desk: solve %zu, check %zu\n", again, taken);
-    return (int)(sheet + checked.number + ranked.number + again + taken);
+    return (int)(sheet + checked.number + codes + ranked.number + again + taken);
 }

@@ -1,4 +1,5 @@
-/* The cabinet judge: reads a case, solves it, totals it node by node, checks proposals and ranks shapes by denial.
+/* The cabinet judge: reads a case, solves it, totals it node by node, checks proposals by the newer code and by the old one, and ranks shapes
+ * by denial.
  *
  * Link with libjudge.a, which `rt staticlib judge` writes to target/staticlib/ (x86-64 Linux). The library keeps no state, allocates
  * nothing and calls nothing: any number of threads may call it at once, each on its own tables. A call needs less than 96 KiB of stack.
@@ -88,6 +89,15 @@ struct judge_checked {
     size_t valid;
 };
 
+/* What checking by the old code answers: the same, and the code, which is 1, on refusal too. */
+struct judge_checked_old {
+    size_t number;
+    size_t place;
+    size_t undetermined;
+    size_t valid;
+    size_t code;
+};
+
 /* What ranking answers: the number of strata, one more than the largest byte, 0 for no shapes. */
 struct judge_ranked {
     size_t number;
@@ -118,6 +128,14 @@ struct judge_solution judge_solve(const uint8_t *case_bytes, size_t case_length,
 struct judge_checked judge_check(const uint8_t *case_bytes, size_t case_length,
                                  const uint8_t *values, size_t values_length,
                                  const uint8_t *levels, size_t levels_length);
+
+/* Checks a proposal by the old code, for cabinets commissioned under it: a value for each pair, no levels. Reading's refusals, 10, 13, 14.
+ * Writes nothing. Bytes past the pairs are not read.
+ * The old code asks only that each value is its rule's. It misses a ring of fittings that only vouch for each other: all of them may be
+ * valid, with nothing beneath them, and it passes. What passes judge_check with some levels passes here too; what passes here need not
+ * pass judge_check with any. A cabinet under the newer code needs judge_check. */
+struct judge_checked_old judge_check_supported(const uint8_t *case_bytes, size_t case_length,
+                                               const uint8_t *values, size_t values_length);
 
 /* Ranks the shapes: writes a byte for each, the most nots on a walk of references from it. Reading's refusals, 16, 17. */
 struct judge_ranked judge_rank(const uint8_t *case_bytes, size_t case_length,

@@ -1,4 +1,4 @@
-/* Calls every function with each slice at the end, then at the start, of pages of its own, with pages that can't be touched on both sides. What a call may not write is read-only: the case, both tables of check, and every table of a call that is refused. */
+/* Calls every function with each slice at the end, then at the start, of pages of its own, with pages that can't be touched on both sides. What a call may not write is read-only: the case, the tables of both checks, and every table of a call that is refused. */
 #define _GNU_SOURCE
 #include <signal.h>
 #include <sys/mman.h>
@@ -133,6 +133,19 @@ static void check_at(int at_end, struct area c, const uint8_t *values, size_t v,
   calls += 2;
 }
 
+/* the old code's check: with a refusal, of this number and place, or the solved values */
+static void check_supported_at(int at_end, struct area c, const uint8_t *values, size_t v, size_t refusal, size_t where, const struct plain *p) {
+  struct area vt = place(values, v, at_end, 1);
+  struct judge_checked_old got = judge_check_supported(c.start, c.length, vt.start, v);
+  number("number of judge_check_supported", got.number, refusal);
+  number("place of judge_check_supported", got.place, where);
+  number("undetermined pairs of judge_check_supported", got.undetermined, refusal == 0 ? p->solved.undetermined : 0);
+  number("valid targets of judge_check_supported", got.valid, refusal == 0 ? p->solved.sure : 0);
+  number("code of judge_check_supported", got.code, 1);
+  drop(vt);
+  calls++;
+}
+
 static void rank_at(int at_end, struct area c, size_t s, const struct judge_ranked *answer, const uint8_t *strata) {
   struct area st = place(filler, s, at_end, answer->number != 0);
   struct judge_ranked got = judge_rank(c.start, c.length, st.start, s);
@@ -161,6 +174,8 @@ static void short_tables_at(int at_end, struct area c, const struct plain *p) {
     check_at(at_end, c, values, v - 1, levels, l, 10);
     check_at(at_end, c, values, v, levels, l - 1, 11);
     check_at(at_end, c, filler, v, levels, l, 13);
+    check_supported_at(at_end, c, values, v - 1, 10, v, p);
+    check_supported_at(at_end, c, filler, v, 13, 0, p);
   }
   if (d > 0) solve_at(at_end, c, v, l, d - 1, 12, p);
   if (p->read.shapes > 0) {
@@ -179,6 +194,7 @@ static void all_calls_at(int at_end, const uint8_t *bytes, size_t length, const 
   rank_at(at_end, c, p->read.shapes, &p->ranked, p->strata);
   totals_at(c, p);
   check_at(at_end, c, sound ? p->tables : filler, p->pairs, sound ? p->tables + p->pairs : filler, 2 * p->pairs, p->read.number);
+  check_supported_at(at_end, c, sound ? p->tables : filler, p->pairs, p->read.number, p->read.place, p);
   if (sound) short_tables_at(at_end, c, p);
   drop(c);
 }
@@ -202,7 +218,7 @@ int main(int count, char **words) {
   signal(SIGBUS, on_fault);
   memset(filler, 0xA5, sizeof filler);
   for (size_t i = 0; i < case_count; i += step, done++) run(i);
-  if (calls < 20 * done) {
+  if (calls < 22 * done) {
     printf("boundary: only %zu calls on %zu cases\n", calls, done);
     return 1;
   }

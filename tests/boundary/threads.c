@@ -13,6 +13,7 @@ struct result {
   struct judge_reading read;
   struct judge_solution solved;
   struct judge_checked checked, refused;
+  struct judge_checked_old checked_old, refused_old;
   struct judge_ranked ranked;
   struct judge_totals totals, no_node;
   size_t solve_number, check_number;
@@ -22,7 +23,7 @@ struct result {
 
 static struct result alone[MOST_CASES];
 
-/* all functions on one case, tables cleared before; the second check is of levels that are all 0, the totals are those of the last node */
+/* all functions on one case, tables cleared before; the second check is of levels that are all 0, by the old code of values that are, the totals are those of the last node */
 static void run(const uint8_t *c, size_t n, struct result *r) {
   static const uint8_t zeros[JUDGE_MOST_LEVEL_BYTES];
   memset(r, 0, sizeof *r);
@@ -30,6 +31,8 @@ static void run(const uint8_t *c, size_t n, struct result *r) {
   r->solved = judge_solve(c, n, r->values, sizeof r->values, r->levels, sizeof r->levels, r->verdicts, sizeof r->verdicts);
   r->checked = judge_check(c, n, r->values, sizeof r->values, r->levels, sizeof r->levels);
   r->refused = judge_check(c, n, r->values, sizeof r->values, zeros, sizeof zeros);
+  r->checked_old = judge_check_supported(c, n, r->values, sizeof r->values);
+  r->refused_old = judge_check_supported(c, n, zeros, sizeof r->values);
   r->ranked = judge_rank(c, n, r->strata, sizeof r->strata);
   r->totals = judge_node_totals(c, n, r->read.nodes - 1);
   r->no_node = judge_node_totals(c, n, r->read.nodes);

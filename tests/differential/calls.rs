@@ -35,6 +35,11 @@ pub fn judge_node_totals(c: &[u8], node: usize) -> [usize; 4] {
     rested(interface::judge_node_totals(c, node))
 }
 
+pub fn judge_check_supported(c: &[u8], v: &[u8]) -> [usize; 5] {
+    watch("judge_check_supported", &[("case", c), ("values", v)]);
+    rested(interface::judge_check_supported(c, v))
+}
+
 pub fn solve(c: &[u8], v: &mut [u8], l: &mut [u8], d: &mut [u8]) -> usize {
     watch("solve", &[("case", c), ("values", v), ("levels", l), ("verdicts", d)]);
     rested(interface::solve(c, v, l, d))

@@ -2,7 +2,7 @@
 
 use crate::reference::Judge;
 use crate::tally::Tally;
-use crate::{calls, watch};
+use crate::{calls, old_code, watch};
 
 // ---- Tables with a margin, in which a write outside the table shows
 
@@ -116,7 +116,8 @@ pub fn compare_solve(tally: &mut Tally, judge: &mut Judge, case: &[u8], values: 
     }
 }
 
-pub fn compare_check(tally: &mut Tally, judge: &Judge, case: &[u8], values: &[u8], levels: &[u8]) {
+/// What check answers, for the old code to be held to.
+pub fn compare_check(tally: &mut Tally, judge: &Judge, case: &[u8], values: &[u8], levels: &[u8]) -> [usize; 4] {
     let answer = judge.checking(values, levels);
     for plain in [false, true] {
         let name = if plain { "check" } else { "judge_check" };
@@ -131,6 +132,25 @@ pub fn compare_check(tally: &mut Tally, judge: &Judge, case: &[u8], values: &[u8
             call.fail("a proposal was written to".to_string());
         }
         tally.note("check", answer[0]);
+    }
+    answer
+}
+
+/// The old code's check, of values that check has answered as `newer` with some levels.
+pub fn compare_supported(tally: &mut Tally, judge: &Judge, case: &[u8], values: &[u8], newer: [usize; 4]) {
+    let call = Call { name: "judge_check_supported", case, tables: vec![("values", values)] };
+    let mut v = Table::new(values);
+    let got = call.on_lent(|case| calls::judge_check_supported(case, v.slice()));
+    if !old_code::follows(newer, got) {
+        call.fail(format!("the newer code has {newer:?}, the old one {got:?}"));
+    }
+    call.same(got, judge.checking_supported(values));
+    if !v.holds(values) {
+        call.fail("a proposal was written to".to_string());
+    }
+    tally.note("old check", got[0]);
+    if let Ok(read) = &judge.read {
+        tally.note_kind("old code", old_code::kind(read, values, newer[0], got));
     }
 }
 

@@ -33,7 +33,8 @@ pub fn examine(tally: &mut Tally, r: &mut Random, case: &[u8], proposals: usize)
         let lengths = [0; 4].map(|_| r.pick(&[0, 1, 3, 40, 4096, 8192]));
         let [v, l, d, s] = lengths.map(|length| filler(r, length));
         compare_solve(tally, &mut judge, case, &v, &l, &d);
-        compare_check(tally, &judge, case, &v, &l);
+        let newer = compare_check(tally, &judge, case, &v, &l);
+        compare_supported(tally, &judge, case, &v, newer);
         compare_rank(tally, &judge, case, &s);
         return examine_some_nodes(tally, r, &mut judge, case);
     }
@@ -85,7 +86,8 @@ fn examine_proposals(tally: &mut Tally, r: &mut Random, judge: &mut Judge, case:
             values.truncate(about(r, read.pairs()));
             levels.truncate(about(r, 2 * read.pairs()));
         }
-        compare_check(tally, judge, case, &values, &levels);
+        let newer = compare_check(tally, judge, case, &values, &levels);
+        compare_supported(tally, judge, case, &values, newer);
         tally.note_kind("proposals", proposal.kind);
     }
 }

@@ -155,6 +155,12 @@ pub fn tiny(r: &mut Random) -> Size {
     Size { nodes, shapes: r.range(1, 8 / nodes), edges: r.range(1, 6), paths: r.range(0, 3), nots: r.range(2, 8), ..small(r) }
 }
 
+/// Few nots, so that shapes vouch for each other; up to 12 pairs, and with them some thousands of supported assignments at the most.
+pub fn vouching(r: &mut Random) -> Size {
+    let nodes = r.range(1, 4);
+    Size { nodes, shapes: r.range(1, 12 / nodes), edges: r.range(2, 8), paths: r.range(1, 3), nots: r.range(0, 2), grounds: r.range(0, 4), ..small(r) }
+}
+
 pub fn medium(r: &mut Random) -> Size {
     Size {
         nodes: r.range(3, 24),

@@ -6,6 +6,7 @@ mod examine;
 mod generator;
 mod interface;
 mod kinds;
+mod old_code;
 mod park_kinds;
 mod part_kinds;
 mod plan;
@@ -45,7 +46,8 @@ fn replay(file: &str) -> Result<String, String> {
     let mut tally = Tally::default();
     compare_read(&mut tally, &judge, &case);
     compare_solve(&mut tally, &mut judge, &case, &values, &levels, &table("verdicts", targets));
-    compare_check(&mut tally, &judge, &case, &values, &levels);
+    let newer = compare_check(&mut tally, &judge, &case, &values, &levels);
+    compare_supported(&mut tally, &judge, &case, &values, newer);
     compare_rank(&mut tally, &judge, &case, &table("strata", shapes));
     // a node that isn't stored is each of them, and one that is none
     let asked = part("node").map_or((0..=nodes).collect(), |bytes| vec![bytes.iter().rev().fold(0, |node, byte| node << 8 | *byte as usize)]);

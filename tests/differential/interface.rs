@@ -10,6 +10,8 @@ struct Checked([usize; 4]);
 struct Ranked([usize; 3]);
 #[repr(C)]
 struct Totals([usize; 4]);
+#[repr(C)]
+struct CheckedOld([usize; 5]);
 
 #[rustfmt::skip]
 mod foreign {
@@ -22,6 +24,7 @@ mod foreign {
         pub(super) fn judge_check(c: *const u8, cn: usize, v: *const u8, vn: usize, l: *const u8, ln: usize) -> Checked;
         pub(super) fn judge_rank(c: *const u8, cn: usize, s: *mut u8, sn: usize) -> Ranked;
         pub(super) fn judge_node_totals(c: *const u8, cn: usize, node: usize) -> Totals;
+        pub(super) fn judge_check_supported(c: *const u8, cn: usize, v: *const u8, vn: usize) -> CheckedOld;
     }
 }
 
@@ -43,6 +46,10 @@ pub fn judge_rank(c: &[u8], s: &mut [u8]) -> [usize; 3] {
 
 pub fn judge_node_totals(c: &[u8], node: usize) -> [usize; 4] {
     unsafe { foreign::judge_node_totals(c.as_ptr(), c.len(), node).0 }
+}
+
+pub fn judge_check_supported(c: &[u8], v: &[u8]) -> [usize; 5] {
+    unsafe { foreign::judge_check_supported(c.as_ptr(), c.len(), v.as_ptr(), v.len()).0 }
 }
 
 pub fn solve(c: &[u8], v: &mut [u8], l: &mut [u8], d: &mut [u8]) -> usize {

@@ -6,7 +6,7 @@ use crate::generator::*;
 use crate::plan::{Kind, Plan};
 use crate::reference::Judge;
 use crate::tally::Tally;
-use crate::{park_kinds, part_kinds, samples, totals};
+use crate::{old_code, park_kinds, part_kinds, samples, totals};
 
 pub type Cases = Vec<Vec<u8>>;
 
@@ -72,6 +72,7 @@ pub fn kinds(plan: &Plan) -> Vec<Kind<Tally>> {
     kinds.extend(part_kinds::kinds(plan));
     kinds.extend(park_kinds::kinds(plan));
     kinds.extend(totals::kinds(plan));
+    kinds.extend(old_code::kinds());
     kinds
 }
 

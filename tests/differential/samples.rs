@@ -1,11 +1,14 @@
-//! Samples held to the library alone: those of document 01, as document 02 has changed them, and some of rules inside rules, of parked edges and of totals by fitting, worked out by hand; every expected number is the documents'.
+//! Samples held to the library alone: those of document 01, as document 02 has changed them, and some of rules inside rules, of parked edges, of totals by fitting and of the old code, worked out by hand; every expected number is the documents'.
 
 use crate::calls::*;
-use crate::generator::{without_parked, without_parks};
+use crate::generator::{without_parked, without_parks, Random};
 use crate::proposals::level_bytes;
 use std::fmt::Debug;
 
 pub const RING: &str = "01 04 00, 02 00 01 00 00 00, 02 00 02 00 03 00, 02 00 03 00 02 00, 02 01 00 00 00 00, 10 00, 10 01, 20, 27 01 01 00, 27 01 00 03, 23 01 02, 24 03, 30 03 01 00, 30 03 02 00, FF";
+
+/// A proposal for it: fittings 2 and 3 linked by each other.
+pub const VOUCHED: &str = "2222 2000 0222 2222 0000";
 
 /// The ring case in two rules: 0, linked, is or of at least 1 at the gateway (2) of a top (3), and at least 1 relay (4) of 0; 1 is its not.
 pub const NESTED_RING: &str = "01 04 00, 02 00 01 00 00 00, 02 00 02 00 03 00, 02 00 03 00 02 00, 02 01 00 00 00 00, 10 00, 10 01, 28 23 27 01 01 20 27 01 00 29 00, 28 24 29 00, 30 00 01 00, 30 00 02 00, FF";
@@ -27,7 +30,7 @@ pub fn hex(text: &str) -> Vec<u8> {
     digits.chunks(2).map(|d| 16 * d[0] + d[1]).collect()
 }
 
-fn digits(text: &str) -> Vec<u8> {
+pub fn digits(text: &str) -> Vec<u8> {
     text.chars().filter_map(|c| c.to_digit(10)).map(|d| d as u8).collect()
 }
 
@@ -75,6 +78,7 @@ pub fn run() -> usize {
     solved_parks(&mut held);
     refused_parks(&mut held);
     totals(&mut held);
+    old_code(&mut held);
     held.0
 }
 
@@ -87,7 +91,7 @@ fn samples_of_01(held: &mut Held) {
     held.same("ring, levels", l.clone(), levels("1111 2000 0400 3500 0011"));
     held.same("ring, verdicts", d, vec![2, 0]);
     held.same("ring, solved proposal", judge_check(&ring, &v, &level_bytes(&l)), [0, 0, 0, 1]);
-    let proposal = digits("2222 2000 0222 2222 0000");
+    let proposal = digits(VOUCHED);
     let proposed = level_bytes(&levels("1111 2000 0499 3555 0000"));
     held.same("ring, proposal", judge_check(&ring, &proposal, &proposed), [15, 14, 0, 0]);
     held.same("ring, proposal by check", check(&ring, &proposal, &proposed), 15);
@@ -349,4 +353,37 @@ fn totals(held: &mut Held) {
     of("reading's 5 first", "01 01 00, 20, 30 00 01 00, FF", 7, [5, 4, 0, 0]);
     of("8 before 5", "01 01 00, FF 00", 1, [8, 4, 0, 0]);
     of("9 before 5", "01 01 00, 24 01, FF", 1, [9, 3, 0, 0]);
+}
+
+// ---- Cabinets under the old code (document 02, point 6)
+
+fn old_code(held: &mut Held) {
+    let ring = hex(RING);
+    let vouched = digits(VOUCHED);
+    held.same("ring, old code", judge_check_supported(&ring, &vouched), [0, 0, 0, 2, 1]);
+    held.same("ring solved, old code", judge_check_supported(&ring, &solved(&ring).1), [0, 0, 0, 1, 1]);
+    // the newer code takes it with no levels, few or many of them equal
+    let r = &mut Random(1);
+    for most in (1..=256).cycle().take(2000) {
+        let levels: Vec<u8> = (0..40).map(|_| r.below(most) as u8).collect();
+        held.same("ring, newer code", judge_check(&ring, &vouched, &levels)[0], 15);
+    }
+    let mut of = |name: &str, text: &str, values: &[u8], expected: [usize; 5]| held.same(name, judge_check_supported(&hex(text), values), expected);
+    of("nested ring, old code", NESTED_RING, &digits("2222 0000 2000 2222 0222"), [0, 0, 0, 2, 1]);
+    of("parked ring, the ring's", PARKED_RING, &vouched, [14, 9, 0, 0, 1]);
+    of("parked ring, old code", PARKED_RING, &digits("2222 2000 0022 2022 0200"), [0, 0, 0, 1, 1]);
+
+    let or_itself = "01 01 00, 23 00 00, 30 00 00 00, FF";
+    for (value, undetermined, valid) in [(0, 0, 0), (1, 1, 0), (2, 0, 1)] {
+        of("or of itself, old code", or_itself, &[value, 255], [0, 0, undetermined, valid, 1]);
+    }
+    for (value, number) in [(0, 14), (1, 0), (2, 14)] {
+        of("not itself, old code", "01 01 00, 24 00, FF", &[value], [number, 0, (number == 0) as usize, 0, 1]);
+    }
+    of("values short, old code", RING, &[3; 19], [10, 20, 0, 0, 1]);
+    of("13 before an earlier 14", RING, &[vec![0; 19], vec![3]].concat(), [13, 19, 0, 0, 1]);
+    of("14, a byte behind the pairs", RING, &[vec![0; 20], vec![3]].concat(), [14, 0, 0, 0, 1]);
+    of("no pairs, old code", "01 00 00, 20, FF", &[], [0, 0, 0, 0, 1]);
+    of("empty input, old code", "", &[], [3, 0, 0, 0, 1]);
+    of("9 before 10, old code", "01 01 00, 24 01, FF", &[], [9, 3, 0, 0, 1]);
 }

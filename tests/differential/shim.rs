@@ -31,8 +31,15 @@ pub unsafe extern "C" fn judge_rank(c: *const u8, cn: usize, s: *mut u8, sn: usi
 
 #[no_mangle]
 pub unsafe extern "C" fn judge_node_totals(c: *const u8, cn: usize, node: usize) -> Row<4> {
-    faults::stray_by_node(c, cn);
+    faults::stray_about("totals", c, cn);
     Row(faults::node_totals(from_raw_parts(c, cn), node))
+}
+
+#[no_mangle]
+pub unsafe extern "C" fn judge_check_supported(c: *const u8, cn: usize, v: *const u8, vn: usize) -> Row<5> {
+    faults::stray_about("old-case", c, cn);
+    faults::stray_about("old-values", v, vn);
+    Row(faults::check_supported(from_raw_parts(c, cn), from_raw_parts(v, vn)))
 }
 
 #[no_mangle]

@@ -1,6 +1,6 @@
 //! Wrong answers to plant in the library's stand-in, one at a time: JUDGE_FAULT in the environment names one, and without it the stand-in answers as the reference does. tests/planted/run says which test has to find which.
 
-use crate::reference::{Case, Judge, Shape};
+use crate::reference::{sets, Case, Judge, Shape};
 use std::sync::atomic::{AtomicU8, Ordering};
 
 fn fault() -> String {
@@ -111,8 +111,52 @@ fn leniently(case: &Case, v: &[u8], l: &[u8], justified: fn(usize, usize) -> boo
             return [15, pair, 0, 0];
         }
     }
-    let valid = case.targets.iter().filter(|(s, a)| v[case.pair(*s, *a)] == 2).count();
-    [0, 0, of_value(v, 1), valid]
+    case.accepted(v)
+}
+
+pub fn check_supported(case: &[u8], v: &[u8]) -> [usize; 5] {
+    let judge = Judge::new(case);
+    let mut answer = judge.checking_supported(v);
+    let fault = fault();
+    let refused = answer[0] != 0;
+    match (fault.as_str(), &judge.read) {
+        ("place", _) => answer = misplaced(answer),
+        ("old-count", _) if refused => answer[2] = 1,
+        ("code", _) if refused => answer[4] = 0,
+        ("codes-confused", _) => answer[4] = 0,
+        ("old-turns-down", _) if !refused => answer = [14, 0, 0, 0, 1],
+        ("old-counts", _) if !refused => answer = [0, 0, answer[3], answer[2], 1],
+        // 15 is kept, with the levels that solving would give
+        ("old-levels", Ok(case)) if !refused => {
+            let (t, p) = sets(&v[..case.pairs()]);
+            let levels: Vec<u8> = case.levels(&t, &p).iter().flat_map(|level| (*level as u16).to_le_bytes()).collect();
+            answer = under_old_code(leniently(case, v, &levels, |level, support| level > support));
+        }
+        // whatever is a value is taken
+        ("old-any", Ok(case)) if answer[0] == 14 => answer = under_old_code(case.accepted(&v[..case.pairs()])),
+        // 13 and 14 are judged of one pair, then of the next
+        ("old-by-pairs", Ok(case)) if answer[0] == 13 => {
+            let values: Vec<u8> = v[..case.pairs()].iter().map(|value| *value.min(&2)).collect();
+            let first = (0..answer[1]).find(|pair| values[*pair] != case.rule_value(pair / case.nodes, pair % case.nodes, &values));
+            answer = first.map_or(answer, |pair| [14, pair, 0, 0, 1]);
+        }
+        // bytes behind the pairs are held to be values
+        ("old-behind", Ok(case)) if !refused => {
+            let behind = v[case.pairs()..].iter().position(|value| *value > 2);
+            answer = behind.map_or(answer, |at| [13, case.pairs() + at, 0, 0, 1]);
+        }
+        ("shared-old", _) if !refused => {
+            let mut count = [answer[2] as u8];
+            pass_through_shared(&mut count);
+            answer[2] = count[0].into();
+        }
+        _ => {}
+    }
+    answer
+}
+
+fn under_old_code([number, place, undetermined, valid]: [usize; 4]) -> [usize; 5] {
+    [number, place, undetermined, valid, 1]
 }
 
 pub fn rank(case: &[u8], strata: &mut [u8]) -> [usize; 3] {
@@ -187,12 +231,12 @@ pub unsafe fn stray(case: *const u8, length: usize, values: *mut u8, values_leng
     }
 }
 
-/// The same of a call with a case alone.
-pub unsafe fn stray_by_node(case: *const u8, length: usize) {
-    match fault().as_str() {
-        "totals-past" => drop(case.add(length).read_volatile()),
-        "totals-before" => drop(case.sub(1).read_volatile()),
-        "totals-crash" => std::process::abort(),
+/// Reads what lies beside a slice of a later call, or crashes.
+pub unsafe fn stray_about(name: &str, slice: *const u8, length: usize) {
+    match fault().strip_prefix(name) {
+        Some("-past") => drop(slice.add(length).read_volatile()),
+        Some("-before") => drop(slice.sub(1).read_volatile()),
+        Some("-crash") => std::process::abort(),
         _ => {}
     }
 }

@@ -1,4 +1,4 @@
-//! The library against public solvers: clingo enumerates all stable assignments of small cases and gives the cautious and brave consequences of larger ones; SWI-Prolog gives the well-founded model.
+//! The library against public solvers: clingo enumerates all stable and all supported assignments of small cases and gives the cautious and brave consequences of larger ones; SWI-Prolog gives the well-founded model.
 //! Rules inside rules are given to them twice: as the expansion, and as they are written, which the expansion has to agree with.
 
 #[allow(dead_code)]
@@ -19,6 +19,9 @@ mod proposals;
 #[allow(dead_code)]
 #[path = "../differential/reference.rs"]
 mod reference;
+#[allow(dead_code)]
+#[path = "../differential/samples.rs"]
+mod samples;
 #[path = "../differential/watch.rs"]
 mod watch;
 mod facts;
@@ -60,15 +63,24 @@ impl Asked {
 
     fn accepts(&self, values: &[u8], levels: &[usize]) -> bool {
         let levels = level_bytes(levels);
-        let answer = calls::judge_check(&self.bytes, values, &levels);
-        if answer[0] == 0 {
-            let valid = self.case.targets.iter().filter(|(s, a)| values[self.case.pair(*s, *a)] == 2).count();
-            let open = values.iter().filter(|v| **v == 1).count();
-            if answer != [0, 0, open, valid] {
-                self.fail(format!("check of {values:?} answers {answer:?}"));
-            }
+        self.counted("check", values, calls::judge_check(&self.bytes, values, &levels)) == 0
+    }
+
+    /// The number that the old code's check answers, with its code in any case.
+    fn by_old_code(&self, values: &[u8]) -> usize {
+        let [number, place, undetermined, valid, code] = calls::judge_check_supported(&self.bytes, values);
+        if code != 1 {
+            self.fail(format!("the old code's check of {values:?} answers the code {code}"));
         }
-        answer[0] == 0
+        self.counted("the old code's check", values, [number, place, undetermined, valid])
+    }
+
+    /// The number of an answer; without a refusal it has to count the values.
+    fn counted(&self, check: &str, values: &[u8], answer: [usize; 4]) -> usize {
+        if answer[0] == 0 && answer != self.case.accepted(values) {
+            self.fail(format!("{check} of {values:?} answers {answer:?}"));
+        }
+        answer[0]
     }
 }
 
@@ -91,11 +103,17 @@ struct Tally {
     well_founded_by_parts: usize,
     /// cases with a parked edge
     parked: usize,
+    /// cases held to all supported assignments
+    all_supported: usize,
+    /// assignments that the old code has to accept, those among them that no levels justify, and those that it has to refuse
+    supported: usize,
+    unfounded: usize,
+    unsupported: usize,
 }
 
 impl Work for Tally {
     fn done(&self) -> usize {
-        self.enumerated + self.consequences + self.well_founded
+        self.enumerated + self.consequences + self.well_founded + self.all_supported
     }
 }
 
@@ -113,6 +131,10 @@ impl Tally {
             ("consequences by parts", self.consequences_by_parts),
             ("well-founded model by parts", self.well_founded_by_parts),
             ("with a parked edge", self.parked),
+            ("all supported assignments by clingo", self.all_supported),
+            ("supported assignments", self.supported),
+            ("supported and not stable", self.unfounded),
+            ("not supported", self.unsupported),
         ];
         ("compared", counts.map(|(name, count)| (name.to_string(), count)).to_vec())
     }
@@ -160,19 +182,64 @@ fn hold_to_all(tally: &mut Tally, r: &mut Random, asked: &Asked, stable: &BTreeS
     }
 }
 
-/// All stable assignments of many cases in one run: an answer set selects one case and holds one assignment of it.
 fn all_stable(batch: &[Asked], by: By) -> Vec<BTreeSet<Vec<u8>>> {
+    all_answers("enumerate", batch, by, &["0"])
+}
+
+fn all_supported(batch: &[Asked]) -> Vec<BTreeSet<Vec<u8>>> {
+    all_answers("supported", batch, By::Expansion, &["0", "tests/solver/supported.lp"])
+}
+
+/// All assignments of many cases in one run: an answer set selects one case and holds one assignment of it.
+fn all_answers(name: &str, batch: &[Asked], by: By, words: &[&str]) -> Vec<BTreeSet<Vec<u8>>> {
     let mut program = String::from("1 { on(K) : case(K) } 1.\n#show on/1. #show v/3. #show p/3.\n");
     for (k, asked) in batch.iter().enumerate() {
         program += &facts(k, &asked.case, by);
     }
-    let out = clingo("enumerate", &program, &["0"]);
-    let mut stable = vec![BTreeSet::new(); batch.len()];
+    let out = clingo(name, &program, words);
+    let mut found = vec![BTreeSet::new(); batch.len()];
     for answer in answers(&out) {
         let k = answer.iter().find(|(name, _)| *name == "on").expect("one case is selected").1[0];
-        stable[k].insert(assignment(k, &batch[k].case, by, &answer));
+        found[k].insert(assignment(k, &batch[k].case, by, &answer));
     }
-    stable
+    found
+}
+
+/// The old code takes each supported assignment and no other; the stable ones are among them, the solved one too.
+fn hold_to_supported(tally: &mut Tally, batch: &[Asked]) -> Vec<BTreeSet<Vec<u8>>> {
+    let all = all_supported(batch);
+    for ((asked, supported), stable) in batch.iter().zip(&all).zip(&all_stable(batch, By::Expansion)) {
+        if !supported.contains(&asked.values) {
+            asked.fail(format!("the solved assignment {:?} is none of the {} supported ones", asked.values, supported.len()));
+        }
+        if !stable.is_subset(supported) {
+            asked.fail(format!("clingo: of {} stable assignments some are not supported", stable.len()));
+        }
+        let others = others(&asked.case, supported);
+        for (what, assignments, expected) in [("is supported", supported, 0), ("is not", &others, 14)] {
+            for values in assignments {
+                let number = asked.by_old_code(values);
+                if number != expected {
+                    asked.fail(format!("the old code answers {number} for {values:?}, which {what}"));
+                }
+            }
+        }
+        tally.supported += supported.len();
+        tally.unfounded += supported.len() - stable.len();
+        tally.unsupported += others.len();
+    }
+    tally.all_supported += batch.len();
+    all
+}
+
+/// Assignments that are none of these: all others of few pairs, else those that differ from one of these in one pair.
+fn others(case: &Case, these: &BTreeSet<Vec<u8>>) -> BTreeSet<Vec<u8>> {
+    if case.pairs() <= 8 {
+        return assignments(case.pairs()).filter(|values| !these.contains(values)).collect();
+    }
+    let with = |values: &[u8], pair: usize, value: u8| [&values[..pair], &[value], &values[pair + 1..]].concat();
+    let changed = |values: &Vec<u8>| (0..3 * values.len()).map(|i| with(values, i / 3, (i % 3) as u8)).collect::<Vec<_>>();
+    these.iter().flat_map(changed).filter(|values| !these.contains(values)).collect()
 }
 
 fn enumerate(tally: &mut Tally, r: &mut Random, batch: &[Asked]) -> Vec<BTreeSet<Vec<u8>>> {
@@ -288,6 +355,15 @@ fn of_any_size(r: &mut Random) -> Size {
     }
 }
 
+/// The ring of document 01, written out and nested, and with a relay parked; the proposal of two fittings linked by each other is supported.
+fn rings(tally: &mut Tally) {
+    let rings = [samples::RING, samples::NESTED_RING, samples::PARKED_RING].map(|text| Asked::new(&vec![samples::hex(text)]));
+    let supported = hold_to_supported(tally, &rings);
+    if !supported[0].contains(&samples::digits(samples::VOUCHED)) {
+        rings[0].fail("clingo: two fittings that vouch for each other are no supported assignment".to_string());
+    }
+}
+
 fn chains() -> Vec<Asked> {
     let built = [positive_chain(9, 12), mixed_chain(8, 11), denial_chain(8, 10), open_chain(7, 6, 7), open_beside_denials(6, 8, 6), open_after_denials(6, 9, 6)];
     built.iter().map(Asked::new).collect()
@@ -337,6 +413,16 @@ fn kinds() -> Vec<Kind<Tally>> {
         Kind::drawn("parked, small or medium", 4, |tally, r, _| {
             let cases = parked_batch(tally, r, 60, small_or_medium_parked);
             well_founded(tally, &cases, By::Expansion);
+        }),
+        Kind::listed("supported rings", 1, |tally, _, _| rings(tally)),
+        Kind::drawn("supported tiny", 6, |tally, r, _| {
+            hold_to_supported(tally, &batch(r, 40, tiny));
+        }),
+        Kind::drawn("supported, vouching", 6, |tally, r, _| {
+            hold_to_supported(tally, &batch(r, 30, vouching));
+        }),
+        Kind::drawn("supported, nested tiny", 3, |tally, r, _| {
+            hold_to_supported(tally, &batch(r, 40, tiny_nested));
         }),
     ]
 }

@@ -20,7 +20,8 @@ use Rattle.semantics.specs.Values.{pairCount, byteSays, saidNumber, isValue, su
 use Rattle.semantics.specs.declared.value.Said.{Said}
 use Rattle.semantics.proofs.Refusing.{zero-cases, orElse-next, orElse-this, unless-none, unless-place, refuse-none, first-refuses, Well, well-first, well-all, well-of}
 use Rattle.checker.specs.Sets.{Threshold, Proposed}
-use Rattle.checker.specs.Checking.{valueFaultIn, supportFault, LevelRoom, LevelsChecked}
+use Rattle.checker.specs.Checking.{valueFaultIn, ProposedUnless, LevelRoom, LevelsChecked}
+use Rattle.semantics.specs.OldCode.{supportFault}
 use Rattle.checker.proofs.Supported.{unsupported}
 
 -- ---- Two passes for one
@@ -76,13 +77,16 @@ unvalued-at values k e f g = e ∙ ap (λ m. refuse m k) (g ∙ ap saidNumber f)
 
 -- without a fault of 13 every number is a value
 pub proposed : {counts : Counts} {values valid possible : List ℕ} {r : Refusal} → Threshold counts values 2 valid → Threshold counts values 1 possible
-    → counts .shapes * counts .nodes ≤ length values → r ≡ valueFaultIn values (counts .shapes * counts .nodes) → r .number ≡ 0 → Proposed counts values valid possible
+    → counts .shapes * counts .nodes ≤ length values → r ≡ valueFaultIn values (counts .shapes * counts .nodes) → ProposedUnless counts values valid possible r
 unfolding isValue
-proposed {values = values} v p l e z = record {
-  there = l;
-  valued = λ k h. leb-true (getD values k 0) 2 (refuse-none values k .0 (well-of (rw e at z) .each k h));
-  valid-set = v;
-  possible-set = p;
+proposed {values = values} v p l e = record {
+  fault = e;
+  proposed = λ z. record {
+    there = l;
+    valued = λ k h. leb-true (getD values k 0) 2 (refuse-none values k .0 (well-of (rw e at z) .each k h));
+    valid-set = v;
+    possible-set = p;
+  };
 }
 
 pub level-room : {counts : Counts} {values valid possible levels : List ℕ} → Proposed counts values valid possible → 2 * (counts .shapes * counts .nodes) ≤ length levels
@@ -113,10 +117,10 @@ module _ {counts : Counts} {rows sets : List ℕ} (t : Tables counts rows sets) 
       ∙ rw (← pair-count t)
 
   -- 13 comes before it
-  module _ {r : Refusal} (e : r ≡ valueFaultIn values (counts .shapes * counts .nodes)) where
+  module _ {valid possible : List ℕ} {r : Refusal} (p : ProposedUnless counts values valid possible r) where
     value-fault-is : r ≡ valueFault (caseIn counts rows) values
     unfolding valueFault
-    value-fault-is = e ∙ ap (valueFaultIn values) (sym (pair-count t))
+    value-fault-is = p .fault ∙ ap (valueFaultIn values) (sym (pair-count t))
 
     pub checked-first : (q : Refusal) → (r .number ≡ 0 → ⊥) → r ≡ orElse (valueFault (caseIn counts rows) values) q
     checked-first q n = rw (← value-fault-is) (sym (orElse-this r q n))

@@ -42,7 +42,8 @@ use Rattle.semantics.proofs.Pairs.{reference-below, least-positive-at}
 use Rattle.semantics.proofs.Refusing.{Well, well-none, well-more, well-first, well-all}
 use Rattle.semantics.proofs.Thresholds.{value-at-least, value-at-most}
 use Rattle.checker.specs.Sets.{Proposed}
-use Rattle.checker.specs.Checking.{ValuesFit, RuleGives, supportFault}
+use Rattle.checker.specs.Checking.{ValuesFit, RuleGives}
+use Rattle.semantics.specs.OldCode.{supportFault}
 
 -- a rule that is read in sets that agree at its references holds in both or in neither
 pub holds-agree : (c : Case) (r : ShapeRule) (a : ℕ) (Y Y′ X X′ : ℕ → ℕ → Bool) → a < c .nodes

@@ -24,10 +24,12 @@ use Rattle.checker.specs.Sets.{levelAt, Threshold, Proposed, LevelRow, R
 abbrev pub valueFaultIn : List ℕ → ℕ → Refusal
 valueFaultIn values pairs = firstOf (upTo pairs) (λ k. refuse (saidNumber (byteSays (getD values k 0))) k)
 
--- ---- 14: the first pair that is not supported
+-- where there is none, the tables are the sets of the proposed values
+pub record ProposedUnless (counts : Counts) (values valid possible : List ℕ) (r : Refusal) : Type 0 where
+  pub fault : r ≡ valueFaultIn values (counts .shapes * counts .nodes)
+  pub proposed : r .number ≡ 0 → Proposed counts values valid possible
 
-abbrev pub supportFault : Case → List ℕ → Refusal
-supportFault c values = firstOf (upTo (pairCount c)) (λ k. refuseUnless (supportedAt c values k) 14 k)
+-- ---- 14: the first pair that is not supported
 
 -- the values and sets have what the rule reads, and agree there; a least number is not 0
 pub record ValuesFit (r : ShapeRule) (size : Size) (values valid possible : List ℕ) : Type 0 where

@@ -24,9 +24,10 @@ ghost use lib.ListN.{length, getD};
 ghost use Rattle.cases.specs.Rows.{caseIn};
 ghost use Rattle.fillers.specs.CaseTables.{Tables};
 ghost use Rattle.rules.specs.Kernel.{RuleFits};
+ghost use Rattle.semantics.specs.OldCode.{supportFault};
 ghost use Rattle.semantics.specs.Values.{pairValue};
 ghost use Rattle.checker.specs.Sets.{Proposed};
-ghost use Rattle.checker.specs.Checking.{ValuesFit, RuleGives, supportFault};
+ghost use Rattle.checker.specs.Checking.{ValuesFit, RuleGives};
 
 // The value of shape s at node a, a byte of which is known that it says one.
 fn value_at(values: &[u8], size: Size, s: Shape, a: Node) -> Value

@@ -22,7 +22,7 @@ use Rattle.judge.specs.Checked.{shortCheck, refusedChecked, proposalFaul
 use Rattle.judge.proofs.Parsed.{parsed-refusal, parsed-case, pairs-in}
 
 -- a refusal's answer
-refused-is : (r : Refusal) (c : Case) (values : List ℕ) → (r .number ≡ 0 → ⊥) → refusedChecked r ≡ checked r c values
+pub refused-is : (r : Refusal) (c : Case) (values : List ℕ) → (r .number ≡ 0 → ⊥) → refusedChecked r ≡ checked r c values
 unfolding checked counted
 refused-is r c values some = rw (ne-eqb (r .number) 0 some)
 
@@ -62,11 +62,14 @@ module _ {s : List ℕ} {p : Parsed} {rows : List ℕ} (values levels : List ℕ
     check-read f = f ∙ ap₂ (λ o c. checked o c values) (sym (refusal-is ∙ orElse-next r _ none)) (parsed-case h)
 
 -- A case that was read: the fault decides, or the counts are those of the proposal
-module _ (counts : Counts) (rows values levels : List ℕ) {fault : Refusal} (e : fault ≡ proposalFault (caseIn counts rows) values levels) where
-  pub proposal-refused : {a : Checked} → (fault .number ≡ 0 → ⊥) → a ≡ refusedChecked fault → a ≡ checked (proposalFault (caseIn counts rows) values levels) (caseIn counts rows) values
-  proposal-refused some f = f ∙ refused-is fault (caseIn counts rows) values some ∙ ap (λ (o : Refusal). checked o (caseIn counts rows) values) e
+module _ (counts : Counts) (rows values : List ℕ) {fault : Refusal} where
+  pub answer-refused : {a : Checked} → (fault .number ≡ 0 → ⊥) → a ≡ refusedChecked fault → a ≡ checked fault (caseIn counts rows) values
+  answer-refused some f = f ∙ refused-is fault (caseIn counts rows) values some
 
-  pub proposal-accepted : {u v : ℕ} → fault .number ≡ 0 → u ≡ tally 1 (take (counts .shapes * counts .nodes) values) → v ≡ tally 2 (targetValues (caseIn counts rows) values)
-      → record { number = fault .number; place = fault .place; undetermined = u; valid = v } ≡ checked (proposalFault (caseIn counts rows) values levels) (caseIn counts rows) values
+  pub answer-accepted : {u v : ℕ} → fault .number ≡ 0 → u ≡ tally 1 (take (counts .shapes * counts .nodes) values) → v ≡ tally 2 (targetValues (caseIn counts rows) values)
+      → record { number = fault .number; place = fault .place; undetermined = u; valid = v } ≡ checked fault (caseIn counts rows) values
   unfolding checked counted
-  proposal-accepted z f g = rw (← e, f, g, z, pairs-in counts rows)
+  answer-accepted z f g = rw (f, g, z, pairs-in counts rows)
+
+  pub answered : {found : Refusal} {a : Checked} → fault ≡ found → a ≡ checked fault (caseIn counts rows) values → a ≡ checked found (caseIn counts rows) values
+  answered e f = rw e at f

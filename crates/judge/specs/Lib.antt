@@ -3,3 +3,4 @@ pub mod Solved
 pub mod Checked
 pub mod Ranked
 pub mod Totalled
+pub mod Supported

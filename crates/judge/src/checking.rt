@@ -19,7 +19,7 @@ ghost use Rattle.semantics.specs.Operations.{checked, checkAnswer};
 ghost use Rattle.judge.specs.Checked.{shortCheck, refusedChecked, proposalFault};
 
 // The answer of a refusal: its number and place, and no counts.
-fn refused(refusal: Refusal) -> Checked
+pub fn refused(refusal: Refusal) -> Checked
     ensures { λ r. ⌜ r ≡ refusedChecked refusal ⌝ }
 {
     Checked {
@@ -42,6 +42,23 @@ fn short_tables(counts: Counts, values: usize, levels: usize) -> Refusal
     )
 }
 
+// The answer that goes with a fault of the proposal, or with none.
+pub fn answer(counts: Counts, rows: &[u16], values: &[u8], fault: Refusal) -> Checked
+    requires { ⌜ CaseIn counts (now rows) ⌝ }
+    requires { ⌜ counts .shapes * counts .nodes ≤ length (now values) ⌝ }
+    ensures { λ r. ⌜ r ≡ checked fault (caseIn counts (now (rows .entry))) (now (values .entry)) ⌝ }
+{
+    if fault.number != 0 {
+        return refused(fault);
+    }
+    Checked {
+        number: fault.number,
+        place: fault.place,
+        undetermined: tally_of(values, counts.shapes * counts.nodes, Value::OPEN),
+        valid: tally_targets(counts, rows, values, Value::VALID),
+    }
+}
+
 // Checks a proposal for the case in the rows.
 fn check_case(counts: Counts, rows: &[u16], values: &[u8], levels: &[u8]) -> Checked
     requires { ⌜ CaseIn counts (now rows) ⌝ }
@@ -52,15 +69,7 @@ fn check_case(counts: Counts, rows: &[u16], values: &[u8], levels: &[u8]) -> Che
     let mut sets = [0u64; 4098];
     node_sets(counts, rows, &mut sets);
     let fault = check_pairs(counts, rows, &sets, values, levels);
-    if fault.number != 0 {
-        return refused(fault);
-    }
-    Checked {
-        number: fault.number,
-        place: fault.place,
-        undetermined: tally_of(values, counts.shapes * counts.nodes, Value::OPEN),
-        valid: tally_targets(counts, rows, values, Value::VALID),
-    }
+    answer(counts, rows, values, fault)
 }
 
 // Checks a proposal: a case of any bytes, and a value and a level table of any bytes and lengths.

@@ -2,15 +2,18 @@
 use crate::checking;
 use crate::ranking;
 use crate::solving;
+use crate::supporting;
 use crate::totalling;
 use cases::answers::Reading;
 use reader::reading::read;
 use semantics::answers::Checked;
+use semantics::answers::CheckedOld;
 use semantics::answers::Ranked;
 use semantics::answers::Solution;
 use semantics::answers::Totals;
 ghost use mathlib.Core.Path.{_≡_};
 ghost use Rattle.cases.specs.Reading.{reading};
+ghost use Rattle.semantics.specs.OldCode.{oldAnswer};
 ghost use Rattle.semantics.specs.Operations.{checkAnswer};
 ghost use Rattle.semantics.specs.Totals.{totalsAnswer};
 ghost use Rattle.judge.specs.Solved.{SolvedAs, NumberedAs};
@@ -77,4 +80,11 @@ pub extern "C" fn judge_node_totals(case: &[u8], node: usize) -> Totals
     ensures { λ r. ⌜ r ≡ totalsAnswer (now (case .entry)) node ⌝ }
 {
     totalling::node_totals(case, node)
+}
+
+#[no_mangle]
+pub extern "C" fn judge_check_supported(case: &[u8], values: &[u8]) -> CheckedOld
+    ensures { λ r. ⌜ r ≡ oldAnswer (now (case .entry)) (now (values .entry)) ⌝ }
+{
+    supporting::check_supported(case, values)
 }

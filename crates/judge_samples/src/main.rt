@@ -1,7 +1,9 @@
-// Solves, checks and ranks the samples of document 01, totals them by node, and meets each refusal 10 to 17, and prints what the entry points answer.
+// Solves, checks and ranks the samples of document 01, checks them under the old code, totals them by node, and meets each refusal 10 to 17, and
+// prints what the entry points answer.
 use judge::checking::check;
 use judge::ranking::rank;
 use judge::solving::solve;
+use judge::supporting::check_supported;
 use judge::totalling::node_totals;
 use libc::STDOUT_FILENO;
 
@@ -39,6 +41,19 @@ fn show_check(name: &[u8], case: &[u8], values: &[u8], levels: &[u8]) {
     number(r.place);
     number(r.undetermined);
     number(r.valid);
+    print(b"\n");
+}
+
+// Checks values under the old code: number, place, undetermined, valid targets, code.
+fn show_old(name: &[u8], case: &[u8], values: &[u8]) {
+    let r = check_supported(case, values);
+    print(name);
+    print(b":");
+    number(r.number);
+    number(r.place);
+    number(r.undetermined);
+    number(r.valid);
+    number(r.code);
     print(b"\n");
 }
 
@@ -195,6 +210,21 @@ fn total(ring: &[u8], clash: &[u8]) {
     show_totals(b"3 before 5", b"", 7);
 }
 
+// The ring's proposal, both of the clash's, and each refusal.
+fn check_old(ring: &[u8], clash: &[u8]) {
+    show_old(
+        b"ring, old code",
+        ring,
+        b"\x02\x02\x02\x02\x02\x00\x00\x00\x00\x02\x02\x02\x02\x02\x02\x02\x00\x00\x00\x00",
+    );
+    show_old(b"clash, old code", clash, b"\x02\x00");
+    show_old(b"clash open, old code", clash, b"\x01\x01");
+    show_old(b"14, old code", clash, b"\x02\x02");
+    show_old(b"13 at a later pair, old code", clash, b"\x02\x03");
+    show_old(b"10, old code", clash, b"\x02");
+    show_old(b"3 before 10, old code", b"", b"");
+}
+
 fn main() {
     let ring =
         b"\x01\x04\x00\x02\x00\x01\x00\x00\x00\x02\x00\x02\x00\x03\x00\x02\x00\x03\x00\x02\x00\x02\x01\x00\x00\x00\x00\x10\x00\x10\x01\x20\x27\x01\x01\x00\x27\x01\x00\x03\x23\x01\x02\x24\x03\x30\x03\x01\x00\x30\x03\x02\x00\xff";
@@ -205,6 +235,7 @@ fn main() {
     solve_nested();
     solve_parked();
     total(ring, clash);
+    check_old(ring, clash);
     solve_short(ring);
     check_proposals(ring, clash);
     check_unfit(clash);

@@ -11,3 +11,4 @@ pub mod Denial
 pub mod Undenied
 pub mod Refusing
 pub mod Totals
+pub mod OldCode

@@ -1,4 +1,4 @@
--- What a case means, in the order of document 01: paths, values, levels and stability, solving, denial, the four operations, and totals by fitting.
+-- What a case means, in the order of document 01: paths, values, levels and stability, solving, denial, the four operations, totals by fitting, and the old code.
 pub mod Paths
 pub mod Values
 pub mod Nested
@@ -9,3 +9,4 @@ pub mod Solving
 pub mod Denial
 pub mod Operations
 pub mod Totals
+pub mod OldCode

@@ -1,4 +1,4 @@
-// What solving, checking, ranking and totals by fitting answer: number and place of the refusal, 0 for none, then the counts, 0 on a refusal.
+// What solving, checking, checking under the old code, ranking and totals by fitting answer: number and place of the refusal, 0 for none, then the counts, 0 on a refusal.
 #[repr(C)]
 pub struct Solution {
     pub number: usize,
@@ -17,6 +17,15 @@ pub struct Checked {
     pub place: usize,
     pub undetermined: usize,
     pub valid: usize,
+}
+
+#[repr(C)]
+pub struct CheckedOld {
+    pub number: usize,
+    pub place: usize,
+    pub undetermined: usize,
+    pub valid: usize,
+    pub code: usize,
 }
 
 #[repr(C)]

@@ -4,3 +4,4 @@ pub mod Ranking
 pub mod Samples
 pub mod Nested
 pub mod Totals
+pub mod OldCode

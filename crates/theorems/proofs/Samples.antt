@@ -22,7 +22,8 @@ use Rattle.semantics.specs.Stability
 use Rattle.semantics.specs.Solving
 use Rattle.semantics.specs.Denial
 use Rattle.semantics.specs.Operations
-use Rattle.theorems.specs.Samples.{OnlyStable, AllPass, lent, twoBytes, solved, ranked, ring, oneNode, clash, notItself, orItself, twoPaths, noFillers, nested, parked, starred}
+use Rattle.semantics.specs.OldCode
+use Rattle.theorems.specs.Samples.{OnlyStable, AllPass, lent, twoBytes, solved, ranked, ring, oneNode, clash, notItself, orItself, twoPaths, noFillers, nested, parked, vouched, starred, requested}
 
 -- a value that is 2 exactly if it is not at least 1 is 1
 only-one : (x : ℕ) → leb x 2 ≡ true → eqb x 2 ≡ not (leb 1 x) → x ≡ 1
@@ -35,9 +36,10 @@ one-pair : (v w : List ℕ) → getD v 0 0 ≡ getD w 0 0 → (k : ℕ) → k < 
 one-pair v w e zero h = e
 one-pair v w e (suc k) h = absurd (omega arith)
 
--- All but one compute. The shape that is not itself: T = C(P) says that its pair is valid exactly if it isn't possible.
-pub starred-samples : AllPass starred
-unfolding starred ring oneNode clash notItself orItself twoPaths noFillers nested parked lent twoBytes solved ranked
+-- All but two compute. The shape that is not itself: T = C(P) says that its pair is valid exactly if it isn't possible. The ring's proposal:
+-- C(P) has not node 2 as Linked, which is pair 14.
+samples : AllPass starred × AllPass requested
+unfolding starred requested ring vouched oneNode clash notItself orItself twoPaths noFillers nested parked lent twoBytes solved ranked
     Lists.from Lists.upTo Lists.any Lists.all Lists.keep Lists.count Lists.largest Lists.insert Lists.sort Lists.nthSmallest
     Lists.nthLargest Lists.firstFrom
     Sets.has Sets.collect Sets.none Sets.same
@@ -61,9 +63,12 @@ unfolding starred ring oneNode clash notItself orItself twoPaths noFillers neste
     Operations.orElse Operations.firstOf Operations.refuseUnless Operations.refuse Operations.tooShort Operations.counted Operations.written
     Operations.tally Operations.levelBytes Operations.levelsIn Operations.caseOf Operations.solveRefusal Operations.solveFault Operations.solveAnswer Operations.solution
     Operations.solveValues Operations.solveLevels Operations.solveVerdicts Operations.checkRefusal Operations.checkFault Operations.valueFault Operations.pairFault Operations.checkAnswer Operations.checked
+    OldCode.oldFault OldCode.oldRefusal OldCode.oldAnswer
     Operations.rankRefusal Operations.rankFault Operations.denialFault Operations.rankAnswer Operations.ranked Operations.rankStrata
-starred-samples =
-    (refl, (refl, (refl, (refl, (refl, (refl, (refl, (not-itself, (refl, (refl, (refl, (refl, (refl, (refl, tt))))))))))))))
+samples = (
+  (refl, (refl, (refl, (refl, (refl, (refl, (refl, (not-itself, (refl, (refl, (refl, tt))))))))))),
+  (refl, (λ st. false≢true (sym (ap (λ (S : List Bool). Sets.has S 14) (st .closed .lower-closed))), (refl, (refl, (refl, tt))))),
+)
   where
     not-itself : OnlyStable notItself (1 ∷ [])
     not-itself =
@@ -75,3 +80,9 @@ starred-samples =
               (and-eq-true-iff (leb (getD v 0 0) 2) true .0 (st .values) .0)
               (ap (λ (S : List Bool). Sets.has S 0) (st .closed .lower-closed)));
         }
+
+pub starred-samples : AllPass starred
+starred-samples = samples .0
+
+pub requested-samples : AllPass requested
+requested-samples = samples .1

@@ -1,4 +1,4 @@
--- The starred samples of document 01, "Samples", and two of document 02, points 2 and 4: what each says, and one table of them. Assumes nothing.
+-- The starred samples of document 01, "Samples", and some of document 02, points 2, 4 and 6: what each says, and a table of each. Assumes nothing.
 use Prim.Native.Nat.{ℕ, zero, suc, _<_}
 use mathlib.Core.Path.{_≡_}
 use mathlib.Core.List.{List, [], _∷_}
@@ -8,10 +8,12 @@ use Rattle.cases.specs.declared.command.ShapeRule.the-variants.{Top, Node, And,
 use Rattle.cases.specs.declared.numbers.Shape.{Shape}
 use Rattle.semantics.specs.declared.answers.Solution.{Solution}
 use Rattle.semantics.specs.declared.answers.Checked.{Checked}
+use Rattle.semantics.specs.declared.answers.CheckedOld.{CheckedOld}
 use Rattle.semantics.specs.declared.answers.Ranked.{Ranked}
 use Rattle.semantics.specs.Values
 use Rattle.semantics.specs.Stability
 use Rattle.semantics.specs.Operations
+use Rattle.semantics.specs.OldCode
 
 -- ---- What a sample says; the first argument is the case in bytes
 
@@ -20,12 +22,16 @@ pub data Sample : Type 0 where
   solves : List ℕ → Solution → (values levels verdicts : List ℕ) → Sample
   -- what checking answers for a proposal
   checks : List ℕ → (values levels : List ℕ) → Checked → Sample
+  -- what checking under the old code answers for a proposal
+  checksOld : List ℕ → (values : List ℕ) → CheckedOld → Sample
   -- what ranking answers and leaves in the table
   ranks : List ℕ → Ranked → (strata : List ℕ) → Sample
   -- the shapes of the case
   expands : List ℕ → (shapes : List ShapeRule) → Sample
   -- the values of a stable assignment, which every stable assignment has
   onlyStable : List ℕ → (values : List ℕ) → Sample
+  -- the values of an assignment that is not stable
+  unstable : List ℕ → (values : List ℕ) → Sample
 
 -- a table as it is lent: n bytes of EE, which nothing writes
 unfoldable pub lent : ℕ → List ℕ
@@ -58,9 +64,11 @@ Passes (solves s answer values levels verdicts) =
     solved s (lent (length values)) (lent (length (twoBytes levels))) (lent (length verdicts))
     ≡ (answer, values, twoBytes levels, verdicts)
 Passes (checks s values levels answer) = Operations.checkAnswer s values (twoBytes levels) ≡ answer
+Passes (checksOld s values answer) = OldCode.oldAnswer s values ≡ answer
 Passes (ranks s answer strata) = ranked s (lent (length strata)) ≡ (answer, strata)
 Passes (expands s shapes) = Operations.caseOf s .shapes ≡ shapes
 Passes (onlyStable s values) = OnlyStable s values
+Passes (unstable s values) = Stability.StableAssignment (Operations.caseOf s) values → ⊥
 
 abbrev pub AllPass : List Sample → Type 0
 AllPass [] = Unit {0}
@@ -79,6 +87,10 @@ ring =
     ∷ 0x20 ∷ 0x27 ∷ 0x01 ∷ 0x01 ∷ 0x00 ∷ 0x27 ∷ 0x01 ∷ 0x00 ∷ 0x03 ∷ 0x23 ∷ 0x01 ∷ 0x02 ∷ 0x24 ∷ 0x03
     ∷ 0x30 ∷ 0x03 ∷ 0x01 ∷ 0x00 ∷ 0x30 ∷ 0x03 ∷ 0x02 ∷ 0x00
     ∷ 0xff ∷ []
+
+-- the ring's proposal: nodes 2 and 3 only vouch for each other
+unfoldable pub vouched : List ℕ
+vouched = 2 ∷ 2 ∷ 2 ∷ 2 ∷ 2 ∷ 0 ∷ 0 ∷ 0 ∷ 0 ∷ 2 ∷ 2 ∷ 2 ∷ 2 ∷ 2 ∷ 2 ∷ 2 ∷ 0 ∷ 0 ∷ 0 ∷ 0 ∷ []
 
 -- one node, with an edge to itself, and these shapes
 unfoldable pub oneNode : List ℕ → List ℕ
@@ -151,15 +163,14 @@ solution r v u s o i =
 abbrev checked : (number place : ℕ) → Checked
 checked n p = record { number = n; place = p; undetermined = 0; valid = 0 }
 
--- in the document's order; then the rule inside rules: both nots stay, and the at most makes a not and an at least; then the parked edge
+-- in the document's order
 unfoldable pub starred : List Sample
 starred =
     solves ring (solution 2 10 0 1 0 1)
     (2 ∷ 2 ∷ 2 ∷ 2 ∷ 2 ∷ 0 ∷ 0 ∷ 0 ∷ 0 ∷ 2 ∷ 0 ∷ 0 ∷ 2 ∷ 2 ∷ 0 ∷ 0 ∷ 0 ∷ 0 ∷ 2 ∷ 2 ∷ [])
     (1 ∷ 1 ∷ 1 ∷ 1 ∷ 2 ∷ 0 ∷ 0 ∷ 0 ∷ 0 ∷ 4 ∷ 0 ∷ 0 ∷ 3 ∷ 5 ∷ 0 ∷ 0 ∷ 0 ∷ 0 ∷ 1 ∷ 1 ∷ [])
     (2 ∷ 0 ∷ [])
-    ∷ checks ring
-    (2 ∷ 2 ∷ 2 ∷ 2 ∷ 2 ∷ 0 ∷ 0 ∷ 0 ∷ 0 ∷ 2 ∷ 2 ∷ 2 ∷ 2 ∷ 2 ∷ 2 ∷ 2 ∷ 0 ∷ 0 ∷ 0 ∷ 0 ∷ [])
+    ∷ checks ring vouched
     (1 ∷ 1 ∷ 1 ∷ 1 ∷ 2 ∷ 0 ∷ 0 ∷ 0 ∷ 0 ∷ 4 ∷ 9 ∷ 9 ∷ 3 ∷ 5 ∷ 5 ∷ 5 ∷ 0 ∷ 0 ∷ 0 ∷ 0 ∷ [])
     (checked 15 14)
     ∷ solves clash (solution 1 0 2 0 0 0) (1 ∷ 1 ∷ []) (1 ∷ 1 ∷ []) []
@@ -171,6 +182,14 @@ starred =
     ∷ solves orItself (solution 1 0 0 0 0 0) (0 ∷ []) (0 ∷ []) []
     ∷ solves twoPaths (solution 2 3 0 0 0 0) (2 ∷ 2 ∷ 2 ∷ 0 ∷ 0 ∷ 0 ∷ []) (1 ∷ 1 ∷ 2 ∷ 0 ∷ 0 ∷ 0 ∷ []) []
     ∷ solves noFillers (solution 2 6 0 0 0 0) (2 ∷ 2 ∷ 2 ∷ 2 ∷ 2 ∷ 2 ∷ []) (1 ∷ 1 ∷ 1 ∷ 1 ∷ 1 ∷ 1 ∷ []) []
+    ∷ []
+
+-- the old code takes the ring's proposal, which is not stable; the rule inside rules: both nots stay, and the at most makes a not and an at
+-- least; the parked edge
+unfoldable pub requested : List Sample
+requested =
+    checksOld ring vouched (record { number = 0; place = 0; undetermined = 0; valid = 2; code = 1 })
+    ∷ unstable ring vouched
     ∷ expands nested
     (Top ∷ And (shape 2) (shape 4) ∷ Not (shape 3) ∷ Not (shape 0) ∷ Not (shape 5) ∷ AtLeast 1 (record { 0 = 0 }) (shape 6) ∷ Node (record { 0 = 1 }) ∷ [])
     ∷ solves nested (solution 3 8 0 1 0 1)

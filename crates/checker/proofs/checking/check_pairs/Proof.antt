@@ -1,6 +1,6 @@
--- `checker::checking::check_pairs` meets its contract: where no byte is refused, the tables are the sets of the proposed values. Assumes nothing.
+-- `checker::checking::check_pairs` meets its contract, with levels. Assumes nothing.
 use borrow.Author.Needs.{needs}
-use Rattle.checker.proofs.Checked.{proposed, checked-first, checked-next}
+use Rattle.checker.proofs.Checked.{checked-first, checked-next}
 use Rattle.checker.proofs.checking.check_pairs.Statement.{statement}
 use Rattle.checker.proofs.checking.check_pairs.Tie as tie
 
@@ -8,7 +8,7 @@ returns : tie.Need-returns
 returns c = search checked-first
 
 pair-fault-requires : tie.Need-pair-fault-requires
-pair-fault-requires c κs = (search, (search proposed, search))
+pair-fault-requires c κs = (search, (search (c .before .before .before .before .before .before .propose .ensures .proposed), search))
 
 returns-2 : tie.Need-returns-2
 returns-2 c = search checked-next
@@ -18,12 +18,9 @@ check-pairs-spec =
     tie.close
     (tie.spec
     (λ c. search needs)
+    (λ c. search needs)
     (λ c κs. search needs)
     returns
-    (λ c. search needs)
-    (λ c κs. search needs)
-    (λ c. search needs)
-    (λ c κs. search needs)
     (λ c. search needs)
     (λ c. search needs)
     pair-fault-requires

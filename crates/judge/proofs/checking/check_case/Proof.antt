@@ -1,6 +1,6 @@
 -- `judge::checking::check_case` meets its contract. Assumes nothing.
 use Rattle.judge.proofs.Parsed.{sets-room, sets-made}
-use Rattle.judge.proofs.Checks.{proposal-refused, proposal-accepted}
+use Rattle.judge.proofs.Checks.{answered}
 use borrow.Author.Needs.{needs}
 use Rattle.judge.proofs.checking.check_case.Statement.{statement}
 use Rattle.judge.proofs.checking.check_case.Tie as tie
@@ -12,10 +12,7 @@ check-pairs-requires : tie.Need-check-pairs-requires
 check-pairs-requires c κs = (search (sets-made, needs), (search needs, search needs))
 
 returns : tie.Need-returns
-returns c = search proposal-refused
-
-returns-2 : tie.Need-returns-2
-returns-2 c = search proposal-accepted
+returns c = search answered
 
 pub check-case-spec : {M : Type 1} → statement M
 check-case-spec =
@@ -26,8 +23,4 @@ check-case-spec =
     (λ c. search needs)
     check-pairs-requires
     (λ c κs. search needs)
-    returns
-    (λ c. search needs)
-    (λ c κs. search needs)
-    (λ c κs. search needs)
-    returns-2)
+    returns)

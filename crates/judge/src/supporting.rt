@@ -1,0 +1,59 @@
+// Checking under the old code, which takes a supported assignment without levels: refusals 1 to 10, 13 and 14 and reading's later ones, else
+// checking's counts; and in each case the byte 1. Nothing is written.
+use crate::checking::answer;
+use crate::checking::refused;
+use cases::counts::Counts;
+use checker::checking::check_support;
+use fillers::table::node_sets;
+use reader::reading::parse;
+use semantics::answers::Checked;
+use semantics::answers::CheckedOld;
+use semantics::refusals::or_else;
+use semantics::refusals::too_short;
+ghost use mathlib.Core.Path.{_≡_};
+ghost use Prim.Native.Nat.{_*_, _≤_};
+ghost use lib.ListN.{length};
+ghost use Rattle.cases.specs.Rows.{CaseIn, caseIn};
+ghost use Rattle.semantics.specs.OldCode.{withOldCode, oldAnswer};
+ghost use Rattle.semantics.specs.Operations.{checked};
+ghost use Rattle.judge.specs.Supported.{supportedFault};
+
+// Checking's answer with the byte of the old code.
+fn with_old_code(checked: Checked) -> CheckedOld
+    ensures { λ r. ⌜ r ≡ withOldCode checked ⌝ }
+{
+    CheckedOld {
+        number: checked.number,
+        place: checked.place,
+        undetermined: checked.undetermined,
+        valid: checked.valid,
+        code: 1,
+    }
+}
+
+// Checks the values proposed for the case in the rows.
+fn check_values(counts: Counts, rows: &[u16], values: &[u8]) -> Checked
+    requires { ⌜ CaseIn counts (now rows) ⌝ }
+    requires { ⌜ counts .shapes * counts .nodes ≤ length (now values) ⌝ }
+    ensures { λ r. ⌜ r ≡ checked (supportedFault (caseIn counts (now (rows .entry))) (now (values .entry))) (caseIn counts (now (rows .entry))) (now (values .entry)) ⌝ }
+{
+    let mut sets = [0u64; 4098];
+    node_sets(counts, rows, &mut sets);
+    let fault = check_support(counts, rows, &sets, values);
+    answer(counts, rows, values, fault)
+}
+
+// Checks values of any bytes and length for a case of any bytes.
+pub fn check_supported(case: &[u8], values: &[u8]) -> CheckedOld
+    ensures { λ r. ⌜ r ≡ oldAnswer (now (case .entry)) (now (values .entry)) ⌝ }
+{
+    let mut rows = [0u16; 5360];
+    let parsed = parse(case, &mut rows);
+    let counts = parsed.counts;
+    let short = too_short(10, counts.shapes * counts.nodes, values.len());
+    let refusal = or_else(parsed.refusal, short);
+    if refusal.number != 0 {
+        return with_old_code(refused(refusal));
+    }
+    with_old_code(check_values(counts, &rows, values))
+}
