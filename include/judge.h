@@ -8,12 +8,13 @@
  * address of any byte. Slices of one call must not overlap where one of them is written. The library reads and writes nothing outside
  * them.
  *
- * A case is a string of commands; its format is described in the scope document. A pair is a shape and a node, its number is
- * shape * nodes + node, and the pair count is shapes * nodes, at most 4,096. A value is 0 violated, 1 undetermined or 2 valid. A level
- * is two bytes, low byte first.
+ * A case is a string of commands; its format is described in the scope document, commands 03 and 28 in the requests. A pair is a shape
+ * and a node, its number is shape * nodes + node, and the pair count is shapes * nodes, at most 4,096. A value is 0 violated,
+ * 1 undetermined or 2 valid. A level is two bytes, low byte first.
  *
  * Every answer starts with a refusal number, 0 for none, and its place. A refused call writes nothing, and every count of its answer is
- * 0. Otherwise the leading entries of the tables are written and all later bytes keep their contents.
+ * 0 (the code of the old check is no count: it is always 1). Otherwise the leading entries of the tables are written and all later bytes
+ * keep their contents.
  *
  *   number  refused because                                              place
  *   1       unknown command byte                                         the command's offset
@@ -38,8 +39,8 @@
  *   19      more than 32 shapes, written and fresh                       the command's offset
  *   20      an edge to park is none that an earlier command 02 laid      the command's offset
  *
- * Reading's refusals are 1 to 9 and 18 to 20. Command 03 parks an edge: it stays on record and counts as an edge, but gives no fillers.
- * Command 28 holds a whole rule; what it writes inside itself become fresh shapes, numbered after all written ones. Pairs, tables and the
+ * Reading's refusals are 1 to 9 and 18 to 20. Command 03 parks an edge for good: it gives no fillers, and a later 02
+ * does not bring it back. Both commands stay on record, and each counts as an edge, in the limit too. Command 28 holds a whole rule; what it writes inside itself become fresh shapes, numbered after all written ones. Pairs, tables and the
  * count of shapes are those of all shapes, fresh ones too.
  */
 #ifndef JUDGE_H
@@ -58,7 +59,7 @@ extern "C" {
 #define JUDGE_MOST_TARGETS 256
 #define JUDGE_MOST_SHAPES 32
 
-/* What reading answers: the counts of the case, repeats included. */
+/* What reading answers: the counts of the case, repeats and commands 03 included. */
 struct judge_reading {
     size_t number;
     size_t place;

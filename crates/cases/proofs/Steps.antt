@@ -12,6 +12,7 @@ use Rattle.fixpoint.proofs.Lists.{tests, by-test}
 use Rattle.cases.specs.declared.answers.Step.{Step}
 use Rattle.cases.specs.declared.answers.Step.the-variants.{Is, Refused}
 use Rattle.cases.specs.declared.answers.Taken.{Taken}
+use Rattle.cases.specs.declared.command.Edge.{Edge}
 use Rattle.cases.specs.declared.command.Command.{Command}
 use Rattle.cases.specs.declared.command.Command.the-variants.{Nodes, End}
 use Rattle.cases.specs.declared.command.Command.the-variants.{Edge as EdgeCommand, Path as PathCommand, Shape as ShapeCommand, Target as TargetCommand}
@@ -22,7 +23,7 @@ use Rattle.cases.specs.declared.format.Operands.{Operands}
 use Rattle.cases.specs.declared.format.Operands.the-variants.{Complete, Cut}
 use Rattle.cases.specs.Counts.{shapeLimit}
 use Rattle.cases.specs.Encoding.{pathByte, shapeByte}
-use Rattle.cases.specs.Faults.{inOrder, withinLimit, nodesKnown, pathsEarlier, leastPositive}
+use Rattle.cases.specs.Faults.{inOrder, withinLimit, nodesKnown, pathsEarlier, leastPositive, edgeThere}
 use Rattle.cases.specs.Format.{formatOf, groupOf, widthOf, takenOf, numberAt, rowOf, complete, operandsOf, operandsBy, missing}
 use Rattle.cases.specs.Format.{edgeOf, pathRuleOf, shapeRuleOf, targetOf, commandOf, commandAt}
 use Rattle.cases.specs.Parts.{Part, PartRead, PartFault, PartIs, partAt, depthLimit}
@@ -281,6 +282,61 @@ found-shows p part =
     by-test (eqb (getD part 0 0) 0x28)
     (λ e. rw e (admitted-shows p part (nestedFound p part) (nested-shows p part)))
     (λ e. rw e (admitted-shows p part (plainFound step) (plain-shows p part step (step-shows (p .last) (countsSoFar p) part))))
+
+-- ---- A command but 03: 20 lets it be, so it is found as before there were parked edges
+
+parkable-entry : (edges : List Edge) (command : Command) → edgeThere edges command ≡ true → parkable edges (entryOf command) ≡ true
+parkable-entry edges (Nodes n) h = refl
+parkable-entry edges (EdgeCommand e) h = h
+parkable-entry edges (PathCommand r) h = refl
+parkable-entry edges (ShapeCommand r) h = refl
+parkable-entry edges (TargetCommand t) h = refl
+parkable-entry edges End h = refl
+
+module _ (part : List ℕ) (unparked : eqb (getD part 0 0) 0x03 ≡ false) (edges : List Edge) where
+  parks-none : edgeThere edges (commandAt part) ≡ true
+  unfolding commandAt commandOf rowOf
+  parks-none =
+      let g = groupOf (getD part 0 0) in
+      by-test (eqb g 1) (λ e. rw e refl)
+      (λ e. by-test (eqb g 2) (λ f. rw (e, f, unparked) refl)
+      (λ f. by-test (eqb g 3) (λ h. rw (e, f, h) refl)
+      (λ h. by-test (eqb g 4) (λ i. rw (e, f, h, i) refl)
+      (λ i. by-test (eqb g 5) (λ j. rw (e, f, h, i, j) refl) (λ j. rw (e, f, h, i, j) refl)))))
+
+  plain-let-be : (last : ℕ) (k : Counts) (o : Step) → StepShows last k part o → laidFound edges (plainFound o) ≡ plainFound o
+  unfolding StepShows
+  plain-let-be last k (Refused n) h = refl
+  plain-let-be last k (Is command row taken) h = rw (parkable-entry edges command (rw (h .command-is) parks-none))
+
+  part-let-be : (r : PartRead) → laidFound edges (partFound r) ≡ partFound r
+  part-let-be (PartFault n) = refl
+  part-let-be (PartIs x next) = refl
+
+  nested-let-be : (p : Progress) → laidFound edges (nestedFound p part) ≡ nestedFound p part
+  unfolding nestedFound
+  nested-let-be p =
+      by-test (inOrder (p .last) 4)
+      (λ ordered. rw ordered
+      (by-test (ltb (length (p .written)) shapeLimit)
+      (λ limit. rw limit (part-let-be (partAt depthLimit (p .case .nodes) (length (p .case .paths)) part 1)))
+      (λ limit. rw limit refl)))
+      (λ ordered. rw ordered refl)
+
+  roomy-let-be : (p : Progress) (f : Found) → laidFound edges f ≡ f → laidFound edges (roomy p f) ≡ roomy p f
+  roomy-let-be p (Fault n) h = refl
+  roomy-let-be p (Good e taken) h = by-test (roomFor p e) (λ r. rw r h) (λ r. rw r refl)
+
+-- "A case without 03 solves as before": it reads as before, command by command
+pub unparked-found : (p : Progress) (part : List ℕ) → eqb (getD part 0 0) 0x03 ≡ false → foundAt p part ≡ roomyFound p part
+unfolding foundAt roomyFound
+unparked-found p part h =
+    let edges = p .case .edges in
+    let step = stepAt (p .last) (countsSoFar p) part in
+    roomy-let-be part h edges p (cond (eqb (getD part 0 0) 0x28) (nestedFound p part) (plainFound step))
+    (by-test (eqb (getD part 0 0) 0x28)
+    (λ e. rw e (nested-let-be part h edges p))
+    (λ e. rw e (plain-let-be part h edges (p .last) (countsSoFar p) step (step-shows (p .last) (countsSoFar p) part))))
 
 -- ---- The walk: what every command keeps holds at its end
 

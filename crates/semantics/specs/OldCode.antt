@@ -14,7 +14,7 @@ use Rattle.semantics.specs.Values.{pairCount, supportedAt}
 abbrev pub supportFault : Case → List ℕ → Refusal
 supportFault c valueTable = firstOf (upTo (pairCount c)) (λ k. refuseUnless (supportedAt c valueTable k) 14 k)
 
--- "Its refusals are those of checking without 11 and 15": 1 to 10, then 13, then 14
+-- "Its refusals are those of checking without 11 and 15": 10, then 13, then 14, after those of reading
 unfoldable pub oldFault : Case → List ℕ → Refusal
 oldFault c valueTable = orElse (tooShort 10 (pairCount c) valueTable) (orElse (valueFault c valueTable) (supportFault c valueTable))
 

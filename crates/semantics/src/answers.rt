@@ -1,4 +1,5 @@
-// What solving, checking, checking under the old code, ranking and totals by fitting answer: number and place of the refusal, 0 for none, then the counts, 0 on a refusal.
+// What solving, checking, checking under the old code, ranking and totals by fitting answer: number and place of the refusal, 0 for none,
+// then the counts, 0 on a refusal; the code of the old check is no count.
 #[repr(C)]
 pub struct Solution {
     pub number: usize,

@@ -1,5 +1,5 @@
 -- The old code over bytes in: it takes exactly the supported assignments, all that the newer code takes, and the ring of document 01, which
--- the newer code takes with no levels at all. Document 02, point 6. Assumes nothing.
+-- the newer code refuses, whatever the levels. Document 02, point 6. Assumes nothing.
 use Prim.Native.Nat.{ℕ, _≤_}
 use mathlib.Core.Path.{_≡_, ap}
 use mathlib.Core.Logic.{_↔_, Iff·rfl}
@@ -35,7 +35,8 @@ newer-passes-older s vt lt h =
     let whole = and-eq-true-iff (supported c vt) (all (upTo (pairCount c)) (justifiedAt c vt (levelsIn (pairCount c) lt))) .0 (n .1 .1 .1) in
     old-accepts-exactly s vt .1 (n .0, (n .1 .0, whole .0))
 
--- "and the ring of document 01 shows that the converse fails": the old code takes the proposal, and the newer code with no level table does
+-- "and the ring of document 01 shows that the converse fails": the old code takes the proposal, and the newer code refuses it,
+-- whatever the level table
 pub converse-fails : (oldAnswer ring vouched .number ≡ 0) × ((lt : List ℕ) → checkAnswer ring vouched lt .number ≡ 0 → ⊥)
 unfolding requested
 converse-fails = (
