@@ -15,7 +15,15 @@ extern "C" {
 }
 
 #[repr(C)]
+#[derive(Clone, Copy)]
 struct Answer<const N: usize>([usize; N]);
+
+/// A solve that may be unfinished (judge.h): so many words, which nothing here looks into.
+const STATE: usize = (8192 + 4096) / 8 + 3;
+type State = Answer<STATE>;
+
+#[repr(C)]
+struct With<const N: usize>(Answer<N>, State);
 
 struct Library {
     read: unsafe extern "C" fn(*const u8, usize) -> Answer<7>,
@@ -25,6 +33,9 @@ struct Library {
     /// what an older library may lack
     old_check: Option<unsafe extern "C" fn(*const u8, usize, *const u8, usize) -> Answer<5>>,
     totals: Option<unsafe extern "C" fn(*const u8, usize, usize) -> Answer<4>>,
+    begin: Option<unsafe extern "C" fn(*const u8, usize) -> With<7>>,
+    advance: Option<unsafe extern "C" fn(State) -> With<1>>,
+    ask: Option<unsafe extern "C" fn(State, usize) -> Answer<3>>,
 }
 
 impl Library {
@@ -45,21 +56,26 @@ impl Library {
                 solve: std::mem::transmute(find("judge_solve")),
                 old_check: std::mem::transmute(look_for("judge_check_supported")),
                 totals: std::mem::transmute(look_for("judge_node_totals")),
+                begin: std::mem::transmute(look_for("judge_begin")),
+                advance: std::mem::transmute(look_for("judge_advance")),
+                ask: std::mem::transmute(look_for("judge_ask")),
             }
         }
     }
 }
 
-const CALLS: [&str; 6] = ["read", "rank", "check", "old check", "solve", "totals"];
+const CALLS: [&str; 10] = ["read", "rank", "check", "old check", "solve", "all advances", "totals", "begin", "advance", "ask"];
 
 struct Tables {
     values: [u8; 4096],
     levels: [u8; 8192],
     verdicts: [u8; 256],
     strata: [u8; 32],
+    /// begun by the library at hand
+    begun: State,
 }
 
-/// One call on the case, the checks being of what the last solve wrote and the totals those of node 0. None where the library lacks it.
+/// One call on the case, the checks being of what the last solve wrote, the totals those of node 0, the advance the first round and the question one of pair 0. None where the library lacks it.
 fn call(library: &Library, name: &str, case: &[u8], t: &mut Tables) -> Option<usize> {
     let (c, n) = (case.as_ptr(), case.len());
     unsafe {
@@ -69,9 +85,26 @@ fn call(library: &Library, name: &str, case: &[u8], t: &mut Tables) -> Option<us
             "check" => (library.check)(c, n, t.values.as_ptr(), 4096, t.levels.as_ptr(), 8192).0[0],
             "old check" => (library.old_check?)(c, n, t.values.as_ptr(), 4096).0[0],
             "totals" => (library.totals?)(c, n, 0).0[0],
+            "begin" => {
+                let With(answer, begun) = (library.begin?)(c, n);
+                t.begun = begun;
+                answer.0[0]
+            }
+            "advance" => (library.advance?)(t.begun).0.0[0],
+            "ask" => (library.ask?)(t.begun, 0).0[2],
+            "all advances" => advances(library.advance?, t.begun),
             _ => (library.solve)(c, n, t.values.as_mut_ptr(), 4096, t.levels.as_mut_ptr(), 8192, t.verdicts.as_mut_ptr(), 256).0[2],
         })
     }
+}
+
+/// Advances to the end, and how many they are.
+fn advances(advance: unsafe extern "C" fn(State) -> With<1>, mut state: State) -> usize {
+    (1..).find(|_| {
+        let advanced = unsafe { advance(state) };
+        state = advanced.1;
+        advanced.0.0[0] == 1
+    }).unwrap()
 }
 
 fn main() {
@@ -86,14 +119,17 @@ fn main() {
         for &n in &sizes {
             for seed in 1..=seeds(name) {
                 let case = family(name, n, seed);
-                let mut t = Tables { values: [0; 4096], levels: [0; 8192], verdicts: [0; 256], strata: [0; 32] };
+                let mut t = Tables { values: [0; 4096], levels: [0; 8192], verdicts: [0; 256], strata: [0; 32], begun: Answer([0; STATE]) };
                 // a time that was not taken is without end
                 let mut least = [[f64::INFINITY; CALLS.len()]; 2];
                 let reads: Vec<bool> = libraries.iter().map(|library| call(library, "read", &case, &mut t) == Some(0)).collect();
                 let rounds: Vec<Option<usize>> = libraries.iter().map(|library| call(library, "solve", &case, &mut t)).collect();
                 assert!(reads[1] && (!reads[0] || rounds[0] == rounds[1]), "rounds of {name}");
+                call(&libraries[1], "begin", &case, &mut t);
+                assert!([None, rounds[1]].contains(&call(&libraries[1], "all advances", &case, &mut t)), "advances of {name}");
                 for _ in 0..turns {
                     for i in (0..2).filter(|i| reads[*i]) {
+                        call(&libraries[i], "begin", &case, &mut t);
                         for (which, name) in CALLS.into_iter().enumerate() {
                             if call(&libraries[i], name, &case, &mut t).is_some() {
                                 least[i][which] = least[i][which].min(times(|| { call(&libraries[i], name, &case, &mut t); })[0]);

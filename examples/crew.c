@@ -1,4 +1,4 @@
-/* Solves the ring case, checks the solution, ranks the shapes, and prints the verdicts and the crew sheet; then it shows what the old code takes. Build it as tests/example/run does. */
+/* Solves the ring case, checks the solution, ranks the shapes, and prints the verdicts and the crew sheet; then it shows what the old code takes, and what is known before the end. Build it as tests/example/run does. */
 #include <stdio.h>
 
 #include "judge.h"
@@ -16,7 +16,7 @@ static const uint8_t ring[] = {
     0xff,
 };
 
-static const char *const words[] = {"impossible", "open", "sure"};
+static const char *const words[] = {"impossible", "open", "sure", "not yet"};
 
 /* The crew sheet, a line for each fitting. Answers the number of a refusal, 0 for none. */
 static size_t print_sheet(const uint8_t *bytes, size_t length, size_t fittings)
@@ -46,6 +46,28 @@ static size_t print_codes(void)
     return old.number;
 }
 
+/* What is known of fittings 1 and 2, round by round: shape 3 is "linked" and shape 4 its not. Answers the number of a refusal, 0 for none. */
+static size_t print_rounds(void)
+{
+    struct judge_begun begun = judge_begin(ring, sizeof ring);
+    struct judge_advanced so_far = {0, begun.unfinished};
+    size_t refused = begun.number;
+    for (size_t rounds = 0; refused == 0; rounds++) {
+        printf("after %zu rounds:", rounds);
+        for (size_t i = 0; i < 4; i++) {
+            size_t fitting = 1 + i / 2, shape = 3 + i % 2;
+            struct judge_reply reply = judge_ask(so_far.unfinished, shape * begun.nodes + fitting);
+            printf("%s %zu %s %s", i > 0 ? ";" : "", fitting, shape == 3 ? "linked:" : "not linked:", words[reply.reply]);
+            refused += reply.number;
+        }
+        printf("\n");
+        if (so_far.over)
+            break;
+        so_far = judge_advance(so_far.unfinished);
+    }
+    return refused;
+}
+
 int main(void)
 {
     uint8_t values[JUDGE_MOST_PAIRS];
@@ -71,6 +93,7 @@ int main(void)
     struct judge_checked checked = judge_check(ring, sizeof ring, values, sizeof values, levels, sizeof levels);
     printf("check: %zu, %zu valid targets\n", checked.number, checked.valid);
     size_t codes = print_codes();
+    size_t rounds = print_rounds();
     struct judge_ranked ranked = judge_rank(ring, sizeof ring, strata, sizeof strata);
     printf("rank: %zu, %zu strata\n", ranked.number, ranked.strata);
 
@@ -78,5 +101,5 @@ int main(void)
     size_t again = solve(ring, sizeof ring, values, sizeof values, levels, sizeof levels, verdicts, sizeof verdicts);
     size_t taken = check(ring, sizeof ring, values, sizeof values, levels, sizeof levels);
     printf("desk: solve %zu, check %zu\n", again, taken);
-    return (int)(sheet + checked.number + codes + ranked.number + again + taken);
+    return (int)(sheet + checked.number + codes + rounds + ranked.number + again + taken);
 }

@@ -1,8 +1,9 @@
-/* The cabinet judge: reads a case, solves it, totals it node by node, checks proposals by the newer code and by the old one, and ranks shapes
- * by denial.
+/* The cabinet judge: reads a case, solves it at once or round by round, totals it node by node, checks proposals by the newer code and by the
+ * old one, and ranks shapes by denial.
  *
  * Link with libjudge.a, which `rt staticlib judge` writes to target/staticlib/ (x86-64 Linux). The library keeps no state, allocates
- * nothing and calls nothing: any number of threads may call it at once, each on its own tables. A call needs less than 96 KiB of stack.
+ * nothing and calls nothing: any number of threads may call it at once, each on its own tables. A call needs less than 160 KiB of
+ * stack, the states that it is handed and answers by value included; one without a state less than 96 KiB.
  *
  * Every slice is a pointer and a length in bytes. A length of 0 needs no valid pointer but a non-null, suitably aligned one: pass the
  * address of any byte. Slices of one call must not overlap where one of them is written. The library reads and writes nothing outside
@@ -12,9 +13,9 @@
  * and a node, its number is shape * nodes + node, and the pair count is shapes * nodes, at most 4,096. A value is 0 violated,
  * 1 undetermined or 2 valid. A level is two bytes, low byte first.
  *
- * Every answer starts with a refusal number, 0 for none, and its place. A refused call writes nothing, and every count of its answer is
- * 0 (the code of the old check is no count: it is always 1). Otherwise the leading entries of the tables are written and all later bytes
- * keep their contents.
+ * Every answer but an advance's starts with a refusal number, 0 for none, and its place. A refused call writes nothing, and every count of
+ * its answer, and a reply, is 0 (the code of the old check is no count: it is always 1). Otherwise the leading entries of the tables are
+ * written and all later bytes keep their contents.
  *
  *   number  refused because                                              place
  *   1       unknown command byte                                         the command's offset
@@ -38,10 +39,11 @@
  *   18      a part of a command 28 is more than 8 deep                   the offset of the 28
  *   19      more than 32 shapes, written and fresh                       the command's offset
  *   20      an edge to park is none that an earlier command 02 laid      the command's offset
+ *   21      the pair asked for is not below the pair count               the pair
  *
- * Reading's refusals are 1 to 9 and 18 to 20. Command 03 parks an edge for good: it gives no fillers, and a later 02
- * does not bring it back. Both commands stay on record, and each counts as an edge, in the limit too. Command 28 holds a whole rule; what it writes inside itself become fresh shapes, numbered after all written ones. Pairs, tables and the
- * count of shapes are those of all shapes, fresh ones too.
+ * Reading's refusals are 1 to 9 and 18 to 20. Command 03 parks an edge for good: it gives no fillers, and a later 02 does not bring it back.
+ * Both commands stay on record, and each counts as an edge, in the limit too. Command 28 holds a whole rule; what it writes inside itself
+ * become fresh shapes, numbered after all written ones. Pairs, tables and the count of shapes are those of all shapes, fresh ones too.
  */
 #ifndef JUDGE_H
 #define JUDGE_H
@@ -114,6 +116,43 @@ struct judge_totals {
     size_t undetermined;
 };
 
+/* A solve that may be unfinished: judge_begin makes it, judge_advance takes it on, judge_ask questions it. It is a value with nothing behind
+ * it: it may be copied and kept, a copy goes its own way, and the input may be gone. The calls hold for any contents: of a length above 8,192
+ * the first 8,192 bytes are the case, bytes that are no case stand for 01 00 00 FF, a value above 2 for 2, an over above 1 for the end. A
+ * question goes by `pairs`, whatever the case is, and behind the last value a pair is impossible. */
+struct judge_unfinished {
+    uint8_t bytes[8192];              /* the case as read, then zeros */
+    size_t length;                    /* how many of them are the case */
+    uint8_t values[JUDGE_MOST_PAIRS]; /* for each pair 2 settled valid, 0 settled violated, 1 neither */
+    size_t pairs;                     /* the pair count */
+    size_t over;                      /* 0 until the end is reached, then 1 */
+};
+
+/* What beginning answers: what reading does, and the solve before its first round. */
+struct judge_begun {
+    size_t number;
+    size_t place;
+    size_t nodes;
+    size_t edges;
+    size_t paths;
+    size_t shapes;
+    size_t targets;
+    struct judge_unfinished unfinished;
+};
+
+/* What advancing answers: whether the end is reached, 1 or 0, and the solve after the round. There is no refusal. */
+struct judge_advanced {
+    size_t over;
+    struct judge_unfinished unfinished;
+};
+
+/* What a question answers: 2 sure, 1 open, 0 impossible, 3 not yet; 0 with a refusal, so look at the number first. */
+struct judge_reply {
+    size_t number;
+    size_t place;
+    size_t reply;
+};
+
 /* Reads a case. Reading's refusals. */
 struct judge_reading judge_read(const uint8_t *case_bytes, size_t case_length);
 
@@ -146,6 +185,18 @@ struct judge_ranked judge_rank(const uint8_t *case_bytes, size_t case_length,
  * the number. Writes nothing. Over all nodes the counts add up to those of judge_solve. Each call solves the case anew: for the totals of
  * many nodes, judge_solve and a count of its values take one solving. */
 struct judge_totals judge_node_totals(const uint8_t *case_bytes, size_t case_length, size_t node);
+
+/* Begins a solve and takes no round: every pair is not yet. Reading's refusals. A refused beginning holds the case 01 00 00 FF in place of the
+ * input, and is not at its end. */
+struct judge_begun judge_begin(const uint8_t *case_bytes, size_t case_length);
+
+/* Takes one round. The end comes after exactly as many advances as judge_solve has rounds, with its values; an advance after it alters nothing.
+ * Each advance reads the case again and takes its round from nothing, so all of them together cost more than judge_solve. */
+struct judge_advanced judge_advance(struct judge_unfinished unfinished);
+
+/* What the rounds so far say of a pair: 2 or 0 once it is settled, which is never withdrawn; else 3 until the end, and 1 from then on. 21, and
+ * no other refusal. */
+struct judge_reply judge_ask(struct judge_unfinished unfinished, size_t pair);
 
 /* The same solve and check for the crew desk: the refusal number alone, 0 for none. */
 size_t solve(const uint8_t *case_bytes, size_t case_length,

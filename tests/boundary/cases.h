@@ -7,7 +7,8 @@
 #include "judge.h"
 
 #define MOST_CASES 80
-#define MOST_BYTES 8192
+/* more than a solve copies of its case */
+#define MOST_BYTES 8200
 
 static struct { const char *name; uint8_t *bytes; size_t length; } cases[MOST_CASES];
 static size_t case_count;
@@ -160,6 +161,7 @@ static void make_cases(void) {
   add("full, a target cut", full, full_length - 2);
   full[full_length] = 0;
   add("full, a byte behind", full, full_length + 1);
+  add("full, longer than a copy", full, MOST_BYTES);
   full[full_length - 4] = 32;
   add("full, shape not there", full, full_length);
   full[full_length - 2] = 1;

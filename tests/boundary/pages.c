@@ -1,4 +1,4 @@
-/* Calls every function with each slice at the end, then at the start, of pages of its own, with pages that can't be touched on both sides. What a call may not write is read-only: the case, the tables of both checks, and every table of a call that is refused. */
+/* Calls every function with each slice at the end, then at the start, of pages of its own, with pages that can't be touched on both sides. What a call may not write is read-only: the case, the tables of both checks, and every table of a call that is refused. Of unfinished solves the answers lie there, and the states in them hold what a beginning gave, anything, or nothing that is set. */
 #define _GNU_SOURCE
 #include <signal.h>
 #include <sys/mman.h>
@@ -54,7 +54,7 @@ static void number(const char *what, size_t got, size_t expected) {
   if (got != expected) fail(text);
 }
 
-static uint8_t filler[MOST_BYTES];
+static uint8_t filler[sizeof(struct judge_begun)];
 
 /* ---- The same calls on plain memory */
 
@@ -184,6 +184,117 @@ static void short_tables_at(int at_end, struct area c, const struct plain *p) {
   }
 }
 
+/* ---- Unfinished solves. A state goes by value: the copy is the caller's. The place of an answer is the call's to write; x86-64 takes it as a first argument, and so these are the same functions */
+
+void begin_into(struct judge_begun *answer, const uint8_t *case_bytes, size_t case_length) __asm__("judge_begin");
+void advance_into(struct judge_advanced *answer, struct judge_unfinished unfinished) __asm__("judge_advance");
+void ask_into(struct judge_reply *answer, struct judge_unfinished unfinished, size_t pair) __asm__("judge_ask");
+
+/* the state that a beginning makes of a case */
+static struct judge_unfinished beginning(const uint8_t *bytes, size_t length, const struct plain *p) {
+  static const uint8_t nothing[] = { 0x01, 0x00, 0x00, 0xFF };
+  struct judge_unfinished u = { .length = length, .pairs = p->pairs };
+  if (p->read.number != 0) bytes = nothing, u.length = sizeof nothing;
+  memcpy(u.bytes, bytes, u.length);
+  memset(u.values, 1, sizeof u.values);
+  return u;
+}
+
+static void question_at(int at_end, const struct judge_unfinished *u, size_t pair) {
+  struct area a = place(filler, sizeof(struct judge_reply), at_end, 0);
+  struct judge_reply *got = (void *)a.start, expected = { 21, pair, 0 };
+  uint8_t value = pair < sizeof u->values ? u->values[pair] : 0;
+  if (pair < u->pairs) expected = (struct judge_reply){ 0, 0, value > 1 ? 2 : value == 0 ? 0 : u->over ? 1 : 3 };
+  ask_into(got, *u, pair);
+  calls++;
+  number("number of judge_ask", got->number, expected.number);
+  number("place of judge_ask", got->place, expected.place);
+  number("reply of judge_ask", got->reply, expected.reply);
+  drop(a);
+}
+
+/* some pairs, and what lies at the ends of the pairs and of the values */
+static void questions_at(int at_end, const struct judge_unfinished *u) {
+  const size_t pairs[] = { 0, 5, u->pairs / 2, u->pairs - 1, u->pairs, sizeof u->values - 1, sizeof u->values, SIZE_MAX };
+  for (size_t i = 0; i < sizeof pairs / sizeof *pairs; i++) question_at(at_end, u, pairs[i]);
+}
+
+/* a solve from its beginning to its end, and an advance more */
+static void course_at(int at_end, struct area c, const struct plain *p) {
+  struct area b = place(filler, sizeof(struct judge_begun), at_end, 0), a = place(filler, sizeof(struct judge_advanced), at_end, 0);
+  struct judge_begun *begun = (void *)b.start;
+  struct judge_advanced *advanced = (void *)a.start;
+  begin_into(begun, c.start, c.length);
+  calls++;
+  struct judge_unfinished u = beginning(c.start, c.length, p);
+  same("judge_begin", begun, &p->read, sizeof p->read);
+  same("the state of judge_begin", &begun->unfinished, &u, sizeof u);
+  size_t rounds = p->read.number == 0 ? p->solved.rounds : 1;
+  for (size_t i = 1; i <= rounds; i++, u = advanced->unfinished) {
+    questions_at(at_end, &u);
+    advance_into(advanced, u);
+    calls++;
+    number("over of judge_advance", advanced->over, i == rounds);
+  }
+  same("the values at the end", u.values, p->tables, p->pairs);
+  questions_at(at_end, &u);
+  advance_into(advanced, u);
+  calls++;
+  number("over of judge_advance after the end", advanced->over, 1);
+  same("the state after the end", &advanced->unfinished, &u, sizeof u);
+  drop(a), drop(b);
+}
+
+/* states of any contents */
+#define STATES 5
+
+static uint8_t noise[sizeof(struct judge_unfinished) + STATES];
+
+/* the case in it, where it fits, and its length in the first two; values about 2 in the first */
+static struct judge_unfinished any_state(const uint8_t *bytes, size_t length, size_t i) {
+  struct judge_unfinished u;
+  memcpy(&u, noise + i, sizeof u);
+  const size_t lengths[STATES] = { length, length, sizeof u.bytes, sizeof u.bytes + 1, u.length };
+  const size_t overs[STATES] = { 0, 2, 0, 0, u.over };
+  if (length <= sizeof u.bytes) memcpy(u.bytes, bytes, length);
+  for (size_t k = 0; i == 0 && k < sizeof u.values; k++) u.values[k] %= 4;
+  u.length = lengths[i], u.over = overs[i];
+  return u;
+}
+
+/* what any state keeps: its case, its pairs and the values behind those of its case; after the end everything. Without a case that reads, the first round is the last */
+static void any_states_at(int at_end, const uint8_t *bytes, size_t length, const struct plain *p) {
+  struct area a = place(filler, sizeof(struct judge_advanced), at_end, 0);
+  struct judge_advanced *got = (void *)a.start;
+  for (size_t i = 0; i < STATES; i++) {
+    struct judge_unfinished u = any_state(bytes, length, i), *after = &got->unfinished;
+    size_t pairs = i == 0 ? p->pairs : 0;
+    questions_at(at_end, &u);
+    advance_into(got, u);
+    calls++;
+    same("the case of any state", after->bytes, u.bytes, sizeof u.bytes);
+    number("the length of any state", after->length, u.length);
+    number("the pairs of any state", after->pairs, u.pairs);
+    same("the values behind the pairs", after->values + pairs, u.values + pairs, sizeof u.values - pairs);
+    if (pairs == 0) number("over without pairs", got->over, 1);
+    number("the state's over", after->over, u.over != 0 ? u.over : got->over);
+    for (size_t k = 0; k < pairs; k++) if (after->values[k] > 2) fail("a round leaves a value above 2");
+  }
+  drop(a);
+}
+
+/* behind the copy and behind the pairs nothing is set: a call that goes by it shows under valgrind */
+static void half_set(const uint8_t *bytes, size_t length, const struct plain *p) {
+  struct judge_unfinished *u = malloc(sizeof *u);
+  memcpy(u->bytes, bytes, length);
+  memset(u->values, 1, p->pairs);
+  u->length = length, u->pairs = p->pairs, u->over = 0;
+  struct judge_advanced whole = judge_advance(beginning(bytes, length, p)), got = judge_advance(*u);
+  number("over of a state half set", got.over, whole.over);
+  same("the values of a state half set", got.unfinished.values, whole.unfinished.values, p->pairs);
+  free(u);
+}
+
 static void all_calls_at(int at_end, const uint8_t *bytes, size_t length, const struct plain *p) {
   struct area c = place(bytes, length, at_end, 1);
   struct judge_reading again = judge_read(c.start, length);
@@ -196,6 +307,8 @@ static void all_calls_at(int at_end, const uint8_t *bytes, size_t length, const 
   check_at(at_end, c, sound ? p->tables : filler, p->pairs, sound ? p->tables + p->pairs : filler, 2 * p->pairs, p->read.number);
   check_supported_at(at_end, c, sound ? p->tables : filler, p->pairs, p->read.number, p->read.place, p);
   if (sound) short_tables_at(at_end, c, p);
+  course_at(at_end, c, p);
+  any_states_at(at_end, bytes, length, p);
   drop(c);
 }
 
@@ -207,6 +320,7 @@ static void run(size_t i) {
     same("the ring's verdicts", p.tables + 60, "\2\0", 2);
   }
   for (int at_end = 0; at_end < 2; at_end++) all_calls_at(at_end, cases[i].bytes, cases[i].length, &p);
+  if (p.read.number == 0) half_set(cases[i].bytes, cases[i].length, &p);
   free(p.tables), free(p.strata);
 }
 
@@ -217,8 +331,9 @@ int main(int count, char **words) {
   signal(SIGSEGV, on_fault);
   signal(SIGBUS, on_fault);
   memset(filler, 0xA5, sizeof filler);
+  for (size_t i = 0; i < sizeof noise; i++) noise[i] = (uint8_t)below(256);
   for (size_t i = 0; i < case_count; i += step, done++) run(i);
-  if (calls < 22 * done) {
+  if (calls < 140 * done) {
     printf("boundary: only %zu calls on %zu cases\n", calls, done);
     return 1;
   }

@@ -1,4 +1,4 @@
-/* Eight threads call all functions at once, each on copies and tables of its own; every answer and every byte has to be what one thread alone gets. */
+/* Eight threads call all functions at once, each on copies and tables of its own and with the stack that the header says is enough; every answer and every byte has to be what one thread alone gets. */
 #define _GNU_SOURCE
 #include <pthread.h>
 #include <stdatomic.h>
@@ -8,6 +8,7 @@
 #include "cases.h"
 
 #define THREADS 8
+#define STACK (160 * 1024)
 
 struct result {
   struct judge_reading read;
@@ -16,6 +17,9 @@ struct result {
   struct judge_checked_old checked_old, refused_old;
   struct judge_ranked ranked;
   struct judge_totals totals, no_node;
+  struct judge_begun begun;
+  struct judge_advanced advanced;
+  struct judge_reply reply, no_pair;
   size_t solve_number, check_number;
   uint8_t values[JUDGE_MOST_PAIRS], levels[JUDGE_MOST_LEVEL_BYTES], verdicts[JUDGE_MOST_TARGETS], strata[JUDGE_MOST_SHAPES];
   uint8_t desk_values[JUDGE_MOST_PAIRS], desk_levels[JUDGE_MOST_LEVEL_BYTES], desk_verdicts[JUDGE_MOST_TARGETS];
@@ -23,7 +27,7 @@ struct result {
 
 static struct result alone[MOST_CASES];
 
-/* all functions on one case, tables cleared before; the second check is of levels that are all 0, by the old code of values that are, the totals are those of the last node */
+/* all functions on one case, tables cleared before; the second check is of levels that are all 0, by the old code of values that are, the totals are those of the last node; a solve takes one round */
 static void run(const uint8_t *c, size_t n, struct result *r) {
   static const uint8_t zeros[JUDGE_MOST_LEVEL_BYTES];
   memset(r, 0, sizeof *r);
@@ -36,6 +40,10 @@ static void run(const uint8_t *c, size_t n, struct result *r) {
   r->ranked = judge_rank(c, n, r->strata, sizeof r->strata);
   r->totals = judge_node_totals(c, n, r->read.nodes - 1);
   r->no_node = judge_node_totals(c, n, r->read.nodes);
+  r->begun = judge_begin(c, n);
+  r->advanced = judge_advance(r->begun.unfinished);
+  r->reply = judge_ask(r->advanced.unfinished, r->begun.unfinished.pairs / 2);
+  r->no_pair = judge_ask(r->advanced.unfinished, r->begun.unfinished.pairs);
   r->solve_number = solve(c, n, r->desk_values, sizeof r->desk_values, r->desk_levels, sizeof r->desk_levels, r->desk_verdicts, sizeof r->desk_verdicts);
   r->check_number = check(c, n, r->values, sizeof r->values, r->levels, sizeof r->levels);
 }
@@ -79,9 +87,12 @@ int main(int count, char **words) {
   for (size_t i = 0; i < case_count; i++) run(cases[i].bytes, cases[i].length, &alone[i]);
   static struct worker workers[THREADS];
   pthread_barrier_init(&start, NULL, THREADS);
+  pthread_attr_t attributes;
+  pthread_attr_init(&attributes);
+  if (pthread_attr_setstacksize(&attributes, STACK) != 0) fail("cannot have the stack", 0);
   for (size_t i = 0; i < THREADS; i++) {
     workers[i].first = 5 * i;
-    if (pthread_create(&workers[i].thread, NULL, work, &workers[i]) != 0) fail("did not start", i);
+    if (pthread_create(&workers[i].thread, &attributes, work, &workers[i]) != 0) fail("did not start", i);
   }
   size_t beside = 0;
   for (size_t i = 0; i < THREADS; i++) {

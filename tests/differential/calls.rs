@@ -1,6 +1,7 @@
 //! The library's calls, each watched: a crash, or a call that doesn't come back, leaves its case and tables behind.
 
 use crate::interface;
+use crate::reference::unfinished::{Advanced, Begun, Unfinished};
 use crate::watch::{rest, watch};
 
 fn rested<T>(answer: T) -> T {
@@ -38,6 +39,23 @@ pub fn judge_node_totals(c: &[u8], node: usize) -> [usize; 4] {
 pub fn judge_check_supported(c: &[u8], v: &[u8]) -> [usize; 5] {
     watch("judge_check_supported", &[("case", c), ("values", v)]);
     rested(interface::judge_check_supported(c, v))
+}
+
+pub fn judge_begin(c: &[u8]) -> Begun {
+    watch("judge_begin", &[("case", c)]);
+    rested(interface::judge_begin(c))
+}
+
+/// A state is left behind as it lies in memory, and the copy that it holds as the case.
+pub fn judge_advance(u: &Unfinished) -> Advanced {
+    watch("judge_advance", &[("case", u.copy()), ("state", u.memory())]);
+    rested(interface::judge_advance(u))
+}
+
+pub fn judge_ask(u: &Unfinished, pair: usize) -> [usize; 3] {
+    let number = pair.to_le_bytes();
+    watch("judge_ask", &[("case", u.copy()), ("state", u.memory()), ("pair", &number)]);
+    rested(interface::judge_ask(u, pair))
 }
 
 pub fn solve(c: &[u8], v: &mut [u8], l: &mut [u8], d: &mut [u8]) -> usize {

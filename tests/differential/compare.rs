@@ -1,8 +1,9 @@
 //! Calls of the library, each compared with the reference in full: number, place, counts, and every byte of every table and beside it.
 
+use crate::reference::unfinished::{Advanced, Begun, Unfinished};
 use crate::reference::Judge;
 use crate::tally::Tally;
-use crate::{calls, old_code, watch};
+use crate::{calls, old_code, unfinished_kinds, watch};
 
 // ---- Tables with a margin, in which a write outside the table shows
 
@@ -52,7 +53,12 @@ struct Call<'a> {
     tables: Vec<(&'static str, &'a [u8])>,
 }
 
-impl Call<'_> {
+impl<'a> Call<'a> {
+    /// A call on a state, whose case is the copy that it holds.
+    fn on(name: &'static str, state: &'a Unfinished) -> Call<'a> {
+        Call { name, case: state.copy(), tables: vec![("state", state.memory())] }
+    }
+
     fn text(&self, difference: &str) -> String {
         let hex = |bytes: &[u8]| bytes.iter().map(|b| format!(" {b:02X}")).collect::<String>();
         let mut text = format!("# {difference}\ncall {}\ncase{}\n", self.name, hex(self.case));
@@ -73,6 +79,25 @@ impl Call<'_> {
     fn same<T: PartialEq + std::fmt::Debug>(&self, got: T, expected: T) {
         if got != expected {
             self.fail(format!("answer {got:?}, expected {expected:?}"));
+        }
+    }
+
+    /// That a state is as expected, to the last byte.
+    fn same_state(&self, got: &Unfinished, expected: &Unfinished) {
+        let bytes = |name: &str, got: &[u8], expected: &[u8]| {
+            let at = got.iter().zip(expected).position(|(got, expected)| got != expected);
+            at.map(|at| format!("{name}: byte {at} is {}, expected {}", got[at], expected[at]))
+        };
+        let number = |name: &str, got: usize, expected: usize| (got != expected).then(|| format!("{name}: {got}, expected {expected}"));
+        let differences = [
+            bytes("bytes", &got.bytes, &expected.bytes),
+            number("length", got.length, expected.length),
+            bytes("values", &got.values, &expected.values),
+            number("pairs", got.pairs, expected.pairs),
+            number("over", got.over, expected.over),
+        ];
+        if let Some(difference) = differences.into_iter().flatten().next() {
+            self.fail(format!("state, {difference}"));
         }
     }
 
@@ -196,4 +221,68 @@ pub fn compare_solutions(tally: &mut Tally, case: &[u8], other: &[u8], how: &str
     }
     tally.note("solve", got.0[0]);
     tally.note("solve", expected.0[0]);
+}
+
+// ---- Unfinished solves
+
+pub fn compare_begin(tally: &mut Tally, judge: &Judge, case: &[u8]) -> Unfinished {
+    let call = Call { name: "judge_begin", case, tables: vec![] };
+    let Begun { answer, unfinished } = call.on_lent(calls::judge_begin);
+    let expected = judge.beginning(case);
+    call.same(answer, expected.answer);
+    call.same_state(&unfinished, &expected.unfinished);
+    tally.note("begin", answer[0]);
+    unfinished
+}
+
+pub fn compare_advance(tally: &mut Tally, state: &Unfinished, expected: &Advanced) -> Unfinished {
+    let call = Call::on("judge_advance", state);
+    let Advanced { over, unfinished } = calls::judge_advance(state);
+    call.same(over, expected.over);
+    call.same_state(&unfinished, &expected.unfinished);
+    tally.note("advance", over);
+    unfinished
+}
+
+pub fn compare_ask(tally: &mut Tally, state: &Unfinished, pair: usize, expected: [usize; 3]) {
+    let number = pair.to_le_bytes();
+    let mut call = Call::on("judge_ask", state);
+    call.tables.push(("pair", &number));
+    let got = calls::judge_ask(state, pair);
+    call.same(got, expected);
+    tally.note("ask", got[0]);
+    tally.note_kind("questions", unfinished_kinds::question(state, pair, got));
+}
+
+/// The library held to itself: a solve from its beginning to as many advances as solving has rounds. The last tells the end, with solving's values, and no other does; what is settled of these pairs stays; an advance more alters nothing.
+/// Answers the state before each round, and at the end.
+pub fn compare_course(tally: &mut Tally, begun: Unfinished, pairs: &[usize]) -> Vec<Unfinished> {
+    let ([_, _, rounds, ..], values, ..) = calls::solved(begun.copy());
+    let replies = |state: &Unfinished| pairs.iter().map(|pair| calls::judge_ask(state, *pair)[2]).collect::<Vec<_>>();
+    let mut states = vec![begun];
+    for advances in 1..=rounds {
+        let before = &states[advances - 1];
+        let call = Call::on("judge_advance", before);
+        let Advanced { over, unfinished } = calls::judge_advance(before);
+        if over != (advances == rounds) as usize {
+            call.fail(format!("advance {advances} tells {over}, solving has {rounds} rounds"));
+        }
+        for ((pair, was), is) in pairs.iter().zip(replies(before)).zip(replies(&unfinished)) {
+            if [0, 2].contains(&was) && is != was {
+                call.fail(format!("the reply {was} for pair {pair} becomes {is}"));
+            }
+        }
+        tally.note("advance", over);
+        states.push(unfinished);
+    }
+    let end = &states[rounds];
+    let call = Call::on("judge_advance", end);
+    if let Some(pair) = (0..values.len()).find(|pair| end.values[*pair] != values[*pair]) {
+        call.fail(format!("pair {pair} has the value {} at the end, solving has {}", end.values[pair], values[pair]));
+    }
+    let more = calls::judge_advance(end);
+    call.same(more.over, 1);
+    call.same_state(&more.unfinished, end);
+    tally.note("advance", 1);
+    states
 }

@@ -1,4 +1,4 @@
-//! All operations on one case: tables of many lengths, proposals of many kinds.
+//! All operations on one case: tables of many lengths, proposals of many kinds. A solve is only begun here; its turns are in unfinished_kinds.rs.
 
 use crate::calls;
 use crate::compare::*;
@@ -29,6 +29,7 @@ pub fn examine(tally: &mut Tally, r: &mut Random, case: &[u8], proposals: usize)
     tally.cases += 1;
     let mut judge = Judge::new(case);
     compare_read(tally, &judge, case);
+    compare_begin(tally, &judge, case);
     if judge.reading()[0] != 0 {
         let lengths = [0; 4].map(|_| r.pick(&[0, 1, 3, 40, 4096, 8192]));
         let [v, l, d, s] = lengths.map(|length| filler(r, length));

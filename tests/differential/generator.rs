@@ -39,6 +39,14 @@ impl Random {
     pub fn pick<T: Copy>(&mut self, from: &[T]) -> T {
         from[self.below(from.len())]
     }
+
+    /// A number that is not below a count; cut to fewer bits some are.
+    pub fn beyond(&mut self, count: usize) -> usize {
+        let some = self.below(count.clamp(1, 4096));
+        let near = self.pick(&[count, count.saturating_add(1), 256 + some, 4096 + some]);
+        let far = self.pick(&[1 << 16, 1 << 31, 1 << 32, 1 << 63]) + some;
+        self.pick(&[near, near, far, usize::MAX]).max(count)
+    }
 }
 
 pub type Commands = Vec<Vec<u8>>;

@@ -16,9 +16,11 @@ mod reference;
 mod samples;
 mod tally;
 mod totals;
+mod unfinished_kinds;
 mod watch;
 
 use compare::*;
+use generator::Random;
 use plan::Plan;
 use reference::Judge;
 use tally::Tally;
@@ -34,6 +36,11 @@ fn run(words: &[String]) -> Result<String, String> {
     Ok(format!("differential: {} calls on {} cases agree, seed {}, {} s", tally.calls, tally.cases, plan.seed, plan.seconds()))
 }
 
+/// A number from its bytes, low byte first.
+fn number(bytes: &[u8]) -> usize {
+    bytes.iter().rev().fold(0, |number, byte| number << 8 | *byte as usize)
+}
+
 fn replay(file: &str) -> Result<String, String> {
     let text = std::fs::read_to_string(file).map_err(|error| format!("{file}: {error}"))?;
     let part = |name: &str| text.lines().find_map(|line| line.strip_prefix(name)).map(samples::hex);
@@ -44,16 +51,21 @@ fn replay(file: &str) -> Result<String, String> {
     let table = |name: &str, length: usize| part(name).unwrap_or(vec![0xA5; length]);
     let (values, levels) = (table("values", shapes * nodes), table("levels", 2 * shapes * nodes));
     let mut tally = Tally::default();
+    if let Some(state) = part("state") {
+        unfinished_kinds::replay(&mut tally, &state, part("pair").map(|bytes| number(&bytes)));
+        return Ok(format!("differential: {file}: all {} calls agree", tally.calls));
+    }
     compare_read(&mut tally, &judge, &case);
     compare_solve(&mut tally, &mut judge, &case, &values, &levels, &table("verdicts", targets));
     let newer = compare_check(&mut tally, &judge, &case, &values, &levels);
     compare_supported(&mut tally, &judge, &case, &values, newer);
     compare_rank(&mut tally, &judge, &case, &table("strata", shapes));
     // a node that isn't stored is each of them, and one that is none
-    let asked = part("node").map_or((0..=nodes).collect(), |bytes| vec![bytes.iter().rev().fold(0, |node, byte| node << 8 | *byte as usize)]);
+    let asked = part("node").map_or((0..=nodes).collect(), |bytes| vec![number(&bytes)]);
     for node in asked {
         compare_totals(&mut tally, &mut judge, &case, node);
     }
+    unfinished_kinds::examine_course(&mut tally, &mut Random(1), &case);
     Ok(format!("differential: {file}: all {} calls agree", tally.calls))
 }
 

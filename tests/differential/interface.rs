@@ -1,4 +1,6 @@
-//! The library's C interface, and safe calls over slices. Answers come back as plain rows of numbers: number, place, then the counts in the document's order.
+//! The library's C interface, and safe calls over slices. Answers come back as plain rows of numbers: number, place, then the counts in the document's order; beside them a solve that may be unfinished.
+
+use crate::reference::unfinished::{Advanced, Begun, Unfinished};
 
 #[repr(C)]
 struct Reading([usize; 7]);
@@ -12,6 +14,8 @@ struct Ranked([usize; 3]);
 struct Totals([usize; 4]);
 #[repr(C)]
 struct CheckedOld([usize; 5]);
+#[repr(C)]
+struct Reply([usize; 3]);
 
 #[rustfmt::skip]
 mod foreign {
@@ -25,6 +29,9 @@ mod foreign {
         pub(super) fn judge_rank(c: *const u8, cn: usize, s: *mut u8, sn: usize) -> Ranked;
         pub(super) fn judge_node_totals(c: *const u8, cn: usize, node: usize) -> Totals;
         pub(super) fn judge_check_supported(c: *const u8, cn: usize, v: *const u8, vn: usize) -> CheckedOld;
+        pub(super) fn judge_begin(c: *const u8, cn: usize) -> Begun;
+        pub(super) fn judge_advance(u: Unfinished) -> Advanced;
+        pub(super) fn judge_ask(u: Unfinished, pair: usize) -> Reply;
     }
 }
 
@@ -50,6 +57,18 @@ pub fn judge_node_totals(c: &[u8], node: usize) -> [usize; 4] {
 
 pub fn judge_check_supported(c: &[u8], v: &[u8]) -> [usize; 5] {
     unsafe { foreign::judge_check_supported(c.as_ptr(), c.len(), v.as_ptr(), v.len()).0 }
+}
+
+pub fn judge_begin(c: &[u8]) -> Begun {
+    unsafe { foreign::judge_begin(c.as_ptr(), c.len()) }
+}
+
+pub fn judge_advance(u: &Unfinished) -> Advanced {
+    unsafe { foreign::judge_advance(u.clone()) }
+}
+
+pub fn judge_ask(u: &Unfinished, pair: usize) -> [usize; 3] {
+    unsafe { foreign::judge_ask(u.clone(), pair).0 }
 }
 
 pub fn solve(c: &[u8], v: &mut [u8], l: &mut [u8], d: &mut [u8]) -> usize {

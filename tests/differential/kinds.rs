@@ -6,22 +6,32 @@ use crate::generator::*;
 use crate::plan::{Kind, Plan};
 use crate::reference::Judge;
 use crate::tally::Tally;
-use crate::{old_code, park_kinds, part_kinds, samples, totals};
+use crate::{old_code, park_kinds, part_kinds, samples, totals, unfinished_kinds};
 
 pub type Cases = Vec<Vec<u8>>;
 
-/// A turn for each case of a list, with so many proposals.
-pub fn list(plan: &Plan, name: &str, proposals: usize, cases: fn(&mut Random) -> Cases) -> Kind<Tally> {
+/// A turn for each case of a list.
+pub fn each_listed(plan: &Plan, name: &str, cases: fn(&mut Random) -> Cases, turn: impl Fn(&mut Tally, &mut Random, &[u8]) + 'static) -> Kind<Tally> {
     let cases = cases(&mut plan.random(name, 0));
-    Kind::listed(name, cases.len(), move |tally, r, number| examine(tally, r, &cases[number], proposals))
+    Kind::listed(name, cases.len(), move |tally, r, number| turn(tally, r, &cases[number]))
 }
 
-/// So many turns, each on a case drawn for it, with so many proposals.
-pub fn draw(name: &str, turns: usize, proposals: usize, case: impl Fn(&mut Random) -> Vec<u8> + 'static) -> Kind<Tally> {
+/// So many turns, each on a case drawn for it.
+pub fn each_drawn(name: &str, turns: usize, case: impl Fn(&mut Random) -> Vec<u8> + 'static, turn: impl Fn(&mut Tally, &mut Random, &[u8]) + 'static) -> Kind<Tally> {
     Kind::drawn(name, turns, move |tally, r, _| {
         let case = case(r);
-        examine(tally, r, &case, proposals);
+        turn(tally, r, &case);
     })
+}
+
+/// Every operation on each case of a list, with so many proposals.
+pub fn list(plan: &Plan, name: &str, proposals: usize, cases: fn(&mut Random) -> Cases) -> Kind<Tally> {
+    each_listed(plan, name, cases, move |tally, r, case| examine(tally, r, case, proposals))
+}
+
+/// Every operation on so many cases drawn, with so many proposals.
+pub fn draw(name: &str, turns: usize, proposals: usize, case: impl Fn(&mut Random) -> Vec<u8> + 'static) -> Kind<Tally> {
+    each_drawn(name, turns, case, move |tally, r, case| examine(tally, r, case, proposals))
 }
 
 pub fn kinds(plan: &Plan) -> Vec<Kind<Tally>> {
@@ -73,6 +83,7 @@ pub fn kinds(plan: &Plan) -> Vec<Kind<Tally>> {
     kinds.extend(park_kinds::kinds(plan));
     kinds.extend(totals::kinds(plan));
     kinds.extend(old_code::kinds());
+    kinds.extend(unfinished_kinds::kinds(plan));
     kinds
 }
 

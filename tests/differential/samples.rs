@@ -1,8 +1,9 @@
-//! Samples held to the library alone: those of document 01, as document 02 has changed them, and some of rules inside rules, of parked edges, of totals by fitting and of the old code, worked out by hand; every expected number is the documents'.
+//! Samples held to the library alone: those of document 01, as document 02 has changed them, and some of rules inside rules, of parked edges, of totals by fitting, of the old code and of unfinished solves, worked out by hand; every expected number is the documents'.
 
 use crate::calls::*;
 use crate::generator::{without_parked, without_parks, Random};
 use crate::proposals::level_bytes;
+use crate::reference::unfinished::{Unfinished, NOTHING};
 use std::fmt::Debug;
 
 pub const RING: &str = "01 04 00, 02 00 01 00 00 00, 02 00 02 00 03 00, 02 00 03 00 02 00, 02 01 00 00 00 00, 10 00, 10 01, 20, 27 01 01 00, 27 01 00 03, 23 01 02, 24 03, 30 03 01 00, 30 03 02 00, FF";
@@ -79,6 +80,7 @@ pub fn run() -> usize {
     refused_parks(&mut held);
     totals(&mut held);
     old_code(&mut held);
+    unfinished(&mut held);
     held.0
 }
 
@@ -386,4 +388,47 @@ fn old_code(held: &mut Held) {
     of("no pairs, old code", "01 00 00, 20, FF", &[], [0, 0, 0, 0, 1]);
     of("empty input, old code", "", &[], [3, 0, 0, 0, 1]);
     of("9 before 10, old code", "01 01 00, 24 01, FF", &[], [9, 3, 0, 0, 1]);
+}
+
+// ---- Answers before the end (document 02, point 7)
+
+/// The replies for so many pairs, and the refusal of the next.
+fn replies(held: &mut Held, name: &str, state: &Unfinished, text: &str) {
+    let expected = digits(text);
+    for (pair, reply) in expected.iter().enumerate() {
+        held.same(name, judge_ask(state, pair), [0, 0, *reply as usize]);
+    }
+    for none in [expected.len(), expected.len() + 1, 4096, 1 << 16, 1 << 32, usize::MAX] {
+        held.same(name, judge_ask(state, none), [21, none, 0]);
+    }
+}
+
+/// The replies before the first round and after each; the last is told as the end, and one more alters nothing.
+fn course(held: &mut Held, name: &str, text: &str, expected: &[&str]) {
+    let mut state = judge_begin(&hex(text)).unfinished;
+    replies(held, name, &state, expected[0]);
+    for (round, text) in expected.iter().enumerate().skip(1) {
+        let advanced = judge_advance(&state);
+        held.same(name, advanced.over, (round == expected.len() - 1) as usize);
+        state = advanced.unfinished;
+        replies(held, name, &state, text);
+    }
+    let more = judge_advance(&state);
+    held.same(name, (more.over, more.unfinished == state), (1, true));
+}
+
+fn unfinished(held: &mut Held) {
+    held.same("ring, begun", judge_begin(&hex(RING)).answer, [0, 0, 4, 4, 2, 5, 2]);
+    course(held, "ring, replies", RING, &["3333 3333 3333 3333 3333", "2222 2000 0200 2200 3322", "2222 2000 0200 2200 0022"]);
+    course(held, "nots of nots, replies", "01 01 00, 20, 24 00, 24 01, 24 02, FF", &["3333", "2333", "2023", "2020"]);
+    course(held, "a top, a not of itself, an or of itself, replies", "01 01 00, 20, 24 01, 23 02 02, FF", &["333", "230", "210"]);
+    course(held, "clash, replies", "01 01 00, 24 01, 24 00, FF", &["33", "11"]);
+    course(held, "no shapes, replies", "01 02 00, FF", &["", ""]);
+    course(held, "a refused beginning, replies", "01 01 00, 20, FF 00", &["", ""]);
+
+    let refused_one = judge_begin(&hex("01 01 00, 20, FF 00"));
+    held.same("a refused beginning", refused_one.answer, refused(8, 5));
+    held.same("what a refused beginning holds", refused_one.unfinished.copy(), &NOTHING[..]);
+    held.same("a refused beginning and that of what it holds", refused_one.unfinished == judge_begin(&NOTHING).unfinished, true);
+    held.same("empty input, begun", judge_begin(&[]).answer, refused(3, 0));
 }

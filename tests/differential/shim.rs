@@ -3,6 +3,7 @@
 mod faults;
 #[allow(dead_code)]
 mod reference;
+use reference::unfinished::{Advanced, Begun, Unfinished};
 use std::slice::{from_raw_parts, from_raw_parts_mut};
 
 #[repr(C)]
@@ -40,6 +41,26 @@ pub unsafe extern "C" fn judge_check_supported(c: *const u8, cn: usize, v: *cons
     faults::stray_about("old-case", c, cn);
     faults::stray_about("old-values", v, vn);
     Row(faults::check_supported(from_raw_parts(c, cn), from_raw_parts(v, vn)))
+}
+
+// On x86-64 the place of an answer in memory is a first argument; declared so, a fault can write beside it.
+
+#[no_mangle]
+pub unsafe extern "C" fn judge_begin(answer: *mut Begun, c: *const u8, cn: usize) -> *mut Begun {
+    faults::stray_about("begin-case", c, cn);
+    answer.write(faults::begin(from_raw_parts(c, cn)));
+    faults::stray_behind("begin-answer", answer)
+}
+
+#[no_mangle]
+pub unsafe extern "C" fn judge_advance(answer: *mut Advanced, u: Unfinished) -> *mut Advanced {
+    answer.write(faults::advance(&u));
+    faults::stray_behind("advance-answer", answer)
+}
+
+#[no_mangle]
+pub unsafe extern "C" fn judge_ask(u: Unfinished, pair: usize) -> Row<3> {
+    Row(faults::ask(&u, pair))
 }
 
 #[no_mangle]

@@ -3,14 +3,17 @@
 use crate::plan::{Group, Work};
 use crate::reference::parts::Part;
 use crate::reference::{Case, Edge};
-use crate::{old_code, proposals, totals};
+use crate::{old_code, proposals, totals, unfinished_kinds};
 use std::collections::BTreeMap;
 
 /// The numbers that reading can answer, and every other operation too.
 const READING: [usize; 13] = [0, 1, 2, 3, 4, 5, 6, 7, 8, 9, 18, 19, 20];
 
 /// The operations, each with what it can answer beside.
-const OPERATIONS: [(&str, &[usize]); 6] = [("read", &[]), ("solve", &[10, 11, 12]), ("check", &[10, 11, 13, 14, 15]), ("rank", &[16, 17]), ("totals", &[]), ("old check", &[10, 13, 14])];
+const OPERATIONS: [(&str, &[usize]); 7] = [("read", &[]), ("solve", &[10, 11, 12]), ("check", &[10, 11, 13, 14, 15]), ("rank", &[16, 17]), ("totals", &[]), ("old check", &[10, 13, 14]), ("begin", &[])];
+
+/// Those that read no input: what an advance tells, and the numbers of a question.
+const UNREAD: [(&str, [usize; 2]); 2] = [("advance", [0, 1]), ("ask", [0, 21])];
 
 /// What a fresh shape's part can be.
 const FRESH: [&str; 10] = ["top", "node", "and", "or", "not", "not of a not", "same", "all", "at least", "at most"];
@@ -50,7 +53,7 @@ fn park_kinds(edges: &[Edge], at: usize) -> Vec<&'static str> {
 
 /// What is counted by kind and not by number.
 fn kinds() -> Vec<(&'static str, Vec<&'static str>)> {
-    vec![("proposals", proposals::names()), ("fresh shapes", FRESH.to_vec()), ("parks", PARKS.to_vec()), ("parked edges", vec!["that change values", "that change none"]), ("nodes asked", totals::ASKED.to_vec()), ("old code", old_code::KINDS.to_vec())]
+    vec![("proposals", proposals::names()), ("fresh shapes", FRESH.to_vec()), ("parks", PARKS.to_vec()), ("parked edges", vec!["that change values", "that change none"]), ("nodes asked", totals::ASKED.to_vec()), ("old code", old_code::KINDS.to_vec()), ("courses", unfinished_kinds::COURSES.to_vec()), ("states", unfinished_kinds::STATES.to_vec()), ("questions", unfinished_kinds::QUESTIONS.to_vec())]
 }
 
 #[derive(Default)]
@@ -105,6 +108,7 @@ impl Tally {
             (group, kinds.into_iter().map(|kind| (kind.to_string(), count(kind))).collect())
         };
         let mut groups: Vec<Group> = OPERATIONS.into_iter().map(|(operation, own)| came(operation, [&READING, own].concat())).collect();
+        groups.extend(UNREAD.into_iter().map(|(operation, numbers)| came(operation, numbers.to_vec())));
         groups.push(came("depths", (1..=8).collect()));
         groups.extend(kinds().into_iter().map(of_kind));
         groups

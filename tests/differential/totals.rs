@@ -24,14 +24,6 @@ fn asked_kind(nodes: usize, node: usize, [_, _, valid, undetermined]: [usize; 4]
     }]
 }
 
-/// A number that is no node of a case of so many; cut to fewer bits some are one.
-fn no_node(r: &mut Random, nodes: usize) -> usize {
-    let node = r.below(nodes.max(1));
-    let near = r.pick(&[nodes, nodes + 1, 256 + node]);
-    let far = r.pick(&[1 << 16, 1 << 31, 1 << 32, 1 << 63]) + node;
-    r.pick(&[near, near, far, usize::MAX])
-}
-
 fn ask(tally: &mut Tally, judge: &mut Judge, case: &[u8], node: usize) {
     let answer = compare_totals(tally, judge, case, node);
     if let Ok(read) = &judge.read {
@@ -42,7 +34,7 @@ fn ask(tally: &mut Tally, judge: &mut Judge, case: &[u8], node: usize) {
 /// One node and one number that is none, or either of a case that is refused.
 pub fn examine_some_nodes(tally: &mut Tally, r: &mut Random, judge: &mut Judge, case: &[u8]) {
     let nodes = judge.read.as_ref().map_or(128, |read| read.nodes);
-    let (node, none) = (r.below(nodes.max(1)), no_node(r, nodes));
+    let (node, none) = (r.below(nodes.max(1)), r.beyond(nodes));
     if judge.read.is_err() {
         return ask(tally, judge, case, if r.one_in(2) { node } else { none });
     }
@@ -60,7 +52,7 @@ fn examine_every_node(tally: &mut Tally, r: &mut Random, case: &[u8]) {
         ask(tally, &mut judge, case, node);
     }
     for _ in 0..2 {
-        let none = no_node(r, nodes);
+        let none = r.beyond(nodes);
         ask(tally, &mut judge, case, none);
     }
 }
@@ -69,30 +61,18 @@ fn examine_every_node(tally: &mut Tally, r: &mut Random, case: &[u8]) {
 
 pub fn kinds(plan: &Plan) -> Vec<Kind<Tally>> {
     vec![
-        every_listed(plan, "totals of samples", |_| [samples::RING, samples::NESTED_RING, samples::AT_MOST, samples::FRESH, samples::PARKED_RING, samples::PARKED].map(samples::hex).to_vec()),
-        every_listed(plan, "totals at the edges of a word", at_words),
-        every_drawn("totals small", 3000, |r| drawn(r, small)),
-        every_drawn("totals nested", 1500, |r| drawn(r, small_nested)),
-        every_drawn("totals parked", 1500, |r| drawn(r, small_parked)),
-        every_drawn("totals medium", 200, |r| drawn(r, medium)),
-        every_drawn("totals large", 10, |r| drawn(r, large)),
+        each_listed(plan, "totals of samples", |_| [samples::RING, samples::NESTED_RING, samples::AT_MOST, samples::FRESH, samples::PARKED_RING, samples::PARKED].map(samples::hex).to_vec(), examine_every_node),
+        each_listed(plan, "totals at the edges of a word", at_words, examine_every_node),
+        each_drawn("totals small", 3000, |r| drawn(r, small), examine_every_node),
+        each_drawn("totals nested", 1500, |r| drawn(r, small_nested), examine_every_node),
+        each_drawn("totals parked", 1500, |r| drawn(r, small_parked), examine_every_node),
+        each_drawn("totals medium", 200, |r| drawn(r, medium), examine_every_node),
+        each_drawn("totals large", 10, |r| drawn(r, large), examine_every_node),
     ]
 }
 
-fn every_listed(plan: &Plan, name: &str, cases: fn(&mut Random) -> Cases) -> Kind<Tally> {
-    let cases = cases(&mut plan.random(name, 0));
-    Kind::listed(name, cases.len(), move |tally, r, number| examine_every_node(tally, r, &cases[number]))
-}
-
-fn every_drawn(name: &str, turns: usize, case: impl Fn(&mut Random) -> Vec<u8> + 'static) -> Kind<Tally> {
-    Kind::drawn(name, turns, move |tally, r, _| {
-        let case = case(r);
-        examine_every_node(tally, r, &case);
-    })
-}
-
 /// Valid and undetermined pairs beside each other, up to the most nodes and shapes.
-fn at_words(r: &mut Random) -> Cases {
+pub fn at_words(r: &mut Random) -> Cases {
     let mut cases = Vec::new();
     for n in [1, 2, 63, 64, 65, 127, 128] {
         cases.extend([open_chain(n, 3, 4), clashes(r, n, 2)]);

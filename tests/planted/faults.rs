@@ -1,7 +1,9 @@
 //! Wrong answers to plant in the library's stand-in, one at a time: JUDGE_FAULT in the environment names one, and without it the stand-in answers as the reference does. tests/planted/run says which test has to find which.
 
+use crate::reference::unfinished::{Advanced, Begun, Unfinished};
 use crate::reference::{sets, Case, Judge, Shape};
 use std::sync::atomic::{AtomicU8, Ordering};
+use std::sync::Mutex;
 
 fn fault() -> String {
     std::env::var("JUDGE_FAULT").unwrap_or_default()
@@ -208,6 +210,87 @@ pub fn node_totals(case: &[u8], node: usize) -> [usize; 4] {
     answer
 }
 
+pub fn begin(case: &[u8]) -> Begun {
+    let judge = Judge::new(case);
+    let mut begun = judge.beginning(case);
+    let refused = begun.answer[0] != 0;
+    let state = &mut begun.unfinished;
+    match fault().as_str() {
+        "place" => begun.answer = misplaced(begun.answer),
+        "begin-count" if refused => begun.answer[2] = 1,
+        "keeps-input" if refused => {
+            state.length = case.len().min(state.bytes.len());
+            state.bytes.fill(0);
+            state.bytes[..state.length].copy_from_slice(&case[..state.length]);
+        }
+        "copy-cut" => state.bytes[4096..].fill(0),
+        // nothing to settle is taken for the end
+        "begun-over" if state.pairs == 0 => state.over = 1,
+        _ => {}
+    }
+    begun
+}
+
+pub fn advance(state: &Unfinished) -> Advanced {
+    let mut answer = state.advancing();
+    let unfinished = &mut answer.unfinished;
+    let pairs = Judge::new(state.copy()).read.map_or(0, |case| case.pairs());
+    match fault().as_str() {
+        // once a round has changed no value
+        "end-late" if unfinished.over == 1 && unfinished.values != state.values => {
+            unfinished.over = 0;
+            answer.over = 0;
+        }
+        "round-after-end" if state.over != 0 => {
+            let round = Unfinished { over: 0, ..state.clone() }.advancing().unfinished;
+            unfinished.values = round.values;
+        }
+        "end-untold" if state.over != 0 => answer.over = 0,
+        "over-cut" => unfinished.over = answer.over,
+        // what is open at the end and what is impossible are not told apart
+        "withdrawn" if answer.over == 1 => unfinished.values[..pairs].iter_mut().for_each(|value| *value = 1.max(*value)),
+        "later-cleared" => unfinished.values[pairs..].fill(0),
+        // T is read as the pairs of value 2 and no other
+        "exactly-2" if state.over == 0 => {
+            let mut read = state.clone();
+            read.values[..pairs].iter_mut().filter(|value| **value > 2).for_each(|value| *value = 1);
+            return read.advancing();
+        }
+        "length-crash" if state.length > state.bytes.len() => std::process::abort(),
+        "kept" => return kept_inside(state),
+        // the answer goes by a byte behind the copy
+        "unset-state" if state.bytes[8191] == 0x5E => answer.over ^= 1,
+        "shared-advance" => pass_through_shared(&mut unfinished.values),
+        _ => {}
+    }
+    answer
+}
+
+/// A round that goes on from where the last one on this case came to, whatever it is given.
+fn kept_inside(state: &Unfinished) -> Advanced {
+    static KEPT: Mutex<Option<Unfinished>> = Mutex::new(None);
+    let mut kept = KEPT.lock().unwrap();
+    let begun = state.values == [1; 4096] && state.over == 0;
+    let from = kept.take().filter(|last| !begun && last.copy() == state.copy()).unwrap_or(state.clone());
+    let answer = from.advancing();
+    *kept = Some(answer.unfinished.clone());
+    answer
+}
+
+pub fn ask(state: &Unfinished, pair: usize) -> [usize; 3] {
+    let answer = state.asking(pair);
+    let [number, _, reply] = answer;
+    match fault().as_str() {
+        "place" => misplaced(answer),
+        "open-early" if reply == 3 => [0, 0, 1],
+        "outside-not-yet" if number == 0 && reply == 0 && state.over == 0 => [0, 0, 3],
+        "count-let-in" if pair == state.pairs => [0, 0, state.values.get(pair).map_or(0, |value| *value as usize)],
+        "by-values" if pair >= state.values.len() => [21, pair, 0],
+        "pair-cut" => state.asking(pair & 0xFFFF),
+        _ => answer,
+    }
+}
+
 fn of_value(values: &[u8], value: u8) -> usize {
     values.iter().filter(|v| **v == value).count()
 }
@@ -239,4 +322,12 @@ pub unsafe fn stray_about(name: &str, slice: *const u8, length: usize) {
         Some("-crash") => std::process::abort(),
         _ => {}
     }
+}
+
+/// Writes behind an answer, which it hands on.
+pub unsafe fn stray_behind<T>(name: &str, answer: *mut T) -> *mut T {
+    if fault().strip_prefix(name) == Some("-past") {
+        answer.add(1).cast::<u8>().write_volatile(0);
+    }
+    answer
 }

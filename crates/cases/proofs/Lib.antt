@@ -3,6 +3,7 @@ pub mod Formats
 pub mod Steps
 pub mod Sound
 pub mod Recording
+pub mod Lengths
 pub mod RefusalNumbers
 pub mod InRows
 pub mod Expansion

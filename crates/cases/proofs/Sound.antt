@@ -48,7 +48,7 @@ module _ {A : Type 0} where
     all-mono l (λ x. s x && t x) t (λ x e. and-eq-true-iff (s x) (t x) .0 e .1) h,
   )
 
-  length-snoc : (l : List A) (x : A) → length (l ++ (x ∷ [])) ≡ suc (length l)
+  pub length-snoc : (l : List A) (x : A) → length (l ++ (x ∷ [])) ≡ suc (length l)
   length-snoc l x = length-append l (x ∷ []) ∙ omega arith
 
   kept-none : {limit : ℕ} {t : A → Bool} → Kept limit t []
@@ -194,7 +194,7 @@ pub record SoundSoFar (p : Progress) : Type 0 where
   pub unbegun : p .last ≡ 0 → p .case ≡ emptyCase
   pub unshaped : p .last ≤ 3 → p .written ≡ []
 
-order-first : (last : ℕ) → inOrder last 1 ≡ true → last ≡ 0
+pub order-first : (last : ℕ) → inOrder last 1 ≡ true → last ≡ 0
 order-first last h = by-test (eqb last 0) (λ e. eqb-true last 0 e) (λ e. absurd (false≢true (rw e at h)))
 
 order-ascends : (last g : ℕ) → inOrder last g ≡ true → last ≤ g
@@ -252,7 +252,7 @@ unfolding pass EntryShows
 unshaped-pass p part at g (Shape x) k order h b = absurd (omega (arith, h .grouped))
 unshaped-pass p part at g (Other command) k order h b = k .unshaped (omega (arith, order-ascends (p .last) g order))
 
-last-pass : (p : Progress) (at g : ℕ) (e : Entry) → pass p at g e .last ≡ g
+pub last-pass : (p : Progress) (at g : ℕ) (e : Entry) → pass p at g e .last ≡ g
 unfolding pass
 last-pass p at g (Shape x) = refl
 last-pass p at g (Other command) = refl

@@ -11,11 +11,19 @@ use semantics::answers::CheckedOld;
 use semantics::answers::Ranked;
 use semantics::answers::Solution;
 use semantics::answers::Totals;
+use semantics::unfinished::Advanced;
+use semantics::unfinished::Begun;
+use semantics::unfinished::Reply;
+use semantics::unfinished::Unfinished;
+use unfinished::advancing;
+use unfinished::asking;
+use unfinished::beginning;
 ghost use mathlib.Core.Path.{_≡_};
 ghost use Rattle.cases.specs.Reading.{reading};
 ghost use Rattle.semantics.specs.OldCode.{oldAnswer};
 ghost use Rattle.semantics.specs.Operations.{checkAnswer};
 ghost use Rattle.semantics.specs.Totals.{totalsAnswer};
+ghost use Rattle.semantics.specs.Unfinished.{begun, advanceAnswer, asked};
 ghost use Rattle.judge.specs.Solved.{SolvedAs, NumberedAs};
 ghost use Rattle.judge.specs.Ranked.{CaseRanked};
 
@@ -87,4 +95,25 @@ pub extern "C" fn judge_check_supported(case: &[u8], values: &[u8]) -> CheckedOl
     ensures { λ r. ⌜ r ≡ oldAnswer (now (case .entry)) (now (values .entry)) ⌝ }
 {
     supporting::check_supported(case, values)
+}
+
+#[no_mangle]
+pub extern "C" fn judge_begin(case: &[u8]) -> Begun
+    ensures { λ r. ⌜ r ≡ begun (now (case .entry)) ⌝ }
+{
+    beginning::begin(case)
+}
+
+#[no_mangle]
+pub extern "C" fn judge_advance(unfinished: Unfinished) -> Advanced
+    ensures { λ r. ⌜ r ≡ advanceAnswer unfinished ⌝ }
+{
+    advancing::advance(unfinished)
+}
+
+#[no_mangle]
+pub extern "C" fn judge_ask(unfinished: Unfinished, pair: usize) -> Reply
+    ensures { λ r. ⌜ r ≡ asked unfinished pair ⌝ }
+{
+    asking::ask(unfinished, pair)
 }

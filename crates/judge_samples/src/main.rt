@@ -1,11 +1,15 @@
-// Solves, checks and ranks the samples of document 01, checks them under the old code, totals them by node, and meets each refusal 10 to 17, and
-// prints what the entry points answer.
+// Solves, checks and ranks the samples of document 01, checks them under the old code, totals them by node, solves them round by round,
+// and meets each refusal 10 to 17 and 21, and prints what the entry points answer.
 use judge::checking::check;
 use judge::ranking::rank;
 use judge::solving::solve;
 use judge::supporting::check_supported;
 use judge::totalling::node_totals;
 use libc::STDOUT_FILENO;
+use semantics::unfinished::Unfinished;
+use unfinished::advancing::advance;
+use unfinished::asking::ask;
+use unfinished::beginning::begin;
 
 fn print(text: &[u8]) {
     io::write_all(STDOUT_FILENO, text);
@@ -78,6 +82,34 @@ fn show_totals(name: &[u8], case: &[u8], node: usize) {
     number(r.valid);
     number(r.undetermined);
     print(b"\n");
+}
+
+// Asks about a pair: number, place, reply.
+fn show_reply(name: &[u8], u: Unfinished, pair: usize) {
+    let r = ask(u, pair);
+    print(name);
+    print(b":");
+    number(r.number);
+    number(r.place);
+    number(r.reply);
+    print(b"\n");
+}
+
+// Begins a solve and advances it twice: reading's number and place, the replies about a pair, and whether the end is reached.
+fn show_course(name: &[u8], case: &[u8], pair: usize) {
+    let begun = begin(case);
+    print(name);
+    print(b":");
+    number(begun.number);
+    number(begun.place);
+    print(b"\n");
+    show_reply(b"  begun", begun.unfinished, pair);
+    let one = advance(begun.unfinished);
+    number(one.over);
+    show_reply(b" after one round", one.unfinished, pair);
+    let two = advance(one.unfinished);
+    number(two.over);
+    show_reply(b" after two", two.unfinished, pair);
 }
 
 fn solve_ring(ring: &[u8]) {
@@ -225,6 +257,15 @@ fn check_old(ring: &[u8], clash: &[u8]) {
     show_old(b"3 before 10, old code", b"", b"");
 }
 
+// Pairs that turn out sure, impossible and open, one that is not there, and a beginning that is refused.
+fn ask_early(ring: &[u8], clash: &[u8]) {
+    show_course(b"ring, pair 0", ring, 0);
+    show_course(b"ring, pair 14", ring, 14);
+    show_course(b"clash, pair 1", clash, 1);
+    show_course(b"21, pair 20", ring, 20);
+    show_course(b"3 at the beginning", b"", 0);
+}
+
 fn main() {
     let ring =
         b"\x01\x04\x00\x02\x00\x01\x00\x00\x00\x02\x00\x02\x00\x03\x00\x02\x00\x03\x00\x02\x00\x02\x01\x00\x00\x00\x00\x10\x00\x10\x01\x20\x27\x01\x01\x00\x27\x01\x00\x03\x23\x01\x02\x24\x03\x30\x03\x01\x00\x30\x03\x02\x00\xff";
@@ -236,6 +277,7 @@ fn main() {
     solve_parked();
     total(ring, clash);
     check_old(ring, clash);
+    ask_early(ring, clash);
     solve_short(ring);
     check_proposals(ring, clash);
     check_unfit(clash);

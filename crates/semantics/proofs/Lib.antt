@@ -6,6 +6,8 @@ pub mod Kernel
 pub mod Thresholds
 pub mod Levels
 pub mod Solved
+pub mod Held
+pub mod Rounds
 pub mod Paths
 pub mod Denial
 pub mod Undenied

@@ -10,3 +10,4 @@ pub mod Denial
 pub mod Operations
 pub mod Totals
 pub mod OldCode
+pub mod Unfinished

@@ -183,7 +183,7 @@ verdict-at c i h =
 
 module _ (s vt lt dt : List ℕ) (solved : SolvedCase s vt lt dt) where
   -- the input reads, and the leading entries are the solved ones
-  solved-reads : Reads s
+  pub solved-reads : Reads s
   solved-reads = solve-none s vt lt dt .0 (solved .number-zero) .0
 
   value-at : (k : ℕ) → k < pairCount (caseOf s) → getD (solvedValues (caseOf s)) k 0 ≡ getD (solveValues s vt lt dt) k 0
@@ -244,7 +244,7 @@ module _ (s vt lt dt : List ℕ) (solved : SolvedCase s vt lt dt) where
   pub undenied-only-solved : Undenied (caseOf s) → (v : List ℕ) → StableAssignment (caseOf s) v → (k : ℕ) → k < pairCount (caseOf s) → getD v k 0 ≡ getD (solveValues s vt lt dt) k 0
   undenied-only-solved u v st k h = only-solved (caseOf s) (case-sound s) u v st k h ∙ value-at k h
 
-  rounds-answered : solveAnswer s vt lt dt .rounds ≡ rounds (caseOf s)
+  pub rounds-answered : solveAnswer s vt lt dt .rounds ≡ rounds (caseOf s)
   unfolding solveAnswer solution
   rounds-answered = counted-none (solveRefusal s vt lt dt) (rounds (caseOf s)) (solved .number-zero)
 

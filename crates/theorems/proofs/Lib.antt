@@ -5,3 +5,4 @@ pub mod Samples
 pub mod Nested
 pub mod Totals
 pub mod OldCode
+pub mod Unfinished

@@ -1,5 +1,5 @@
 -- `judge::checking::check_case` meets its contract. Assumes nothing.
-use Rattle.judge.proofs.Parsed.{sets-room, sets-made}
+use Rattle.fillers.proofs.Prepared.{sets-room, tables-ready}
 use Rattle.judge.proofs.Checks.{answered}
 use borrow.Author.Needs.{needs}
 use Rattle.judge.proofs.checking.check_case.Statement.{statement}
@@ -9,7 +9,7 @@ node-sets-requires : tie.Need-node-sets-requires
 node-sets-requires c κs = search (needs, sets-room)
 
 check-pairs-requires : tie.Need-check-pairs-requires
-check-pairs-requires c κs = (search (sets-made, needs), (search needs, search needs))
+check-pairs-requires c κs = (search (tables-ready, needs), (search needs, search needs))
 
 returns : tie.Need-returns
 returns c = search answered

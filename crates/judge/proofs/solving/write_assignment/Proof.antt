@@ -1,5 +1,5 @@
 -- `judge::solving::write_assignment` meets its contract. Assumes nothing.
-use Rattle.judge.proofs.Parsed.{sets-room, sets-made}
+use Rattle.fillers.proofs.Prepared.{sets-room, tables-ready}
 use Rattle.judge.proofs.Solves.{assignment-written}
 use borrow.Author.Needs.{needs}
 use Rattle.judge.proofs.solving.write_assignment.Statement.{statement}
@@ -9,10 +9,10 @@ node-sets-requires : tie.Need-node-sets-requires
 node-sets-requires c κs = search (needs, sets-room)
 
 solve-sets-requires : tie.Need-solve-sets-requires
-solve-sets-requires c κs = (search (sets-made, needs), (search needs, search needs))
+solve-sets-requires c κs = (search (tables-ready, needs), (search needs, search needs))
 
 write-levels-requires : tie.Need-write-levels-requires
-write-levels-requires c κs = (search (sets-made, needs), (search needs, (search needs, search needs)))
+write-levels-requires c κs = (search (tables-ready, needs), (search needs, (search needs, search needs)))
 
 returns : tie.Need-returns
 returns c =

@@ -1,5 +1,5 @@
 -- `judge::supporting::check_values` meets its contract. Assumes nothing.
-use Rattle.judge.proofs.Parsed.{sets-room, sets-made}
+use Rattle.fillers.proofs.Prepared.{sets-room, tables-ready}
 use Rattle.judge.proofs.Checks.{answered}
 use borrow.Author.Needs.{needs}
 use Rattle.judge.proofs.supporting.check_values.Statement.{statement}
@@ -9,7 +9,7 @@ node-sets-requires : tie.Need-node-sets-requires
 node-sets-requires c κs = search (needs, sets-room)
 
 check-support-requires : tie.Need-check-support-requires
-check-support-requires c κs = (search (sets-made, needs), search needs)
+check-support-requires c κs = (search (tables-ready, needs), search needs)
 
 returns : tie.Need-returns
 returns c = search answered

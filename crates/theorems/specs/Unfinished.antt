@@ -1,0 +1,30 @@
+-- A solve while it is unfinished: what it is after so many advances, the case that it holds, and the last P. Document 02, point 7. Assumes nothing.
+use Prim.Native.Nat.{ℕ, zero, suc}
+use mathlib.Core.Bool.{Bool, true}
+use mathlib.Core.List.{List}
+use Rattle.fixpoint.specs.Sets.{collect}
+use Rattle.fixpoint.specs.Stages.{upper}
+use Rattle.cases.specs.Case.{Case}
+use Rattle.semantics.specs.declared.unfinished.Unfinished.{Unfinished}
+use Rattle.semantics.specs.Operations.{caseOf}
+use Rattle.semantics.specs.Stability.{nextSet}
+use Rattle.semantics.specs.Unfinished.{heldInput, begun, advanced}
+use Rattle.semantics.specs.Values.{pairCount}
+
+-- so many advances
+unfoldable pub after : ℕ → Unfinished → Unfinished
+after zero u = u
+after (suc i) u = advanced (after i u)
+
+-- the solve of an input, "begun, advanced one round a call", after i advances
+unfoldable pub solving : List ℕ → ℕ → Unfinished
+solving s i = after i (begun s .unfinished)
+
+-- the case that it holds: the input's, or that of 01 00 00 FF where the input is refused
+unfoldable pub heldBy : List ℕ → Case
+heldBy s = caseOf (heldInput s)
+
+-- "the last P worked out" after i rounds; before the first round no pair is outside it
+unfoldable pub lastP : Case → ℕ → List Bool
+lastP c zero = collect (pairCount c) (λ k. true)
+lastP c (suc i) = upper (pairCount c) (nextSet c) i

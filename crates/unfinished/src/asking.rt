@@ -1,0 +1,55 @@
+// Questions: what is certain of a pair so far. Nothing is read or worked out again.
+use semantics::unfinished::Certainty;
+use semantics::unfinished::Reply;
+use semantics::unfinished::Unfinished;
+use semantics::unfinished::reply_number;
+ghost use mathlib.Core.Path.{_≡_};
+ghost use lib.ListN.{getD};
+ghost use Rattle.semantics.specs.Unfinished.{asked, certainOf, certainty};
+
+// The byte at a place, 0 behind the end.
+fn byte_at(bytes: &[u8], at: usize) -> u8
+    ensures { λ r. ⌜ r ≡ getD (now (bytes .entry)) at 0 ⌝ }
+{
+    if at < bytes.len() { bytes[at] } else { 0 }
+}
+
+fn certainty_of(value: u8, over: bool) -> Certainty
+    ensures { λ r. ⌜ r ≡ certainty value over ⌝ }
+{
+    if 2 <= value {
+        return Certainty::Sure;
+    }
+    if value == 0 {
+        return Certainty::Impossible;
+    }
+    if over {
+        return Certainty::Open;
+    }
+    Certainty::NotYet
+}
+
+fn certain_of(u: Unfinished, pair: usize) -> Certainty
+    ensures { λ r. ⌜ r ≡ certainOf u pair ⌝ }
+{
+    certainty_of(byte_at(&u.values, pair), u.over != 0)
+}
+
+// What is certain of a pair, by any number, in a state of any contents.
+pub fn ask(u: Unfinished, pair: usize) -> Reply
+    ensures { λ r. ⌜ r ≡ asked u pair ⌝ }
+{
+    if pair < u.pairs {
+        let certain = certain_of(u, pair);
+        return Reply {
+            number: 0,
+            place: 0,
+            reply: reply_number(certain),
+        };
+    }
+    Reply {
+        number: 21,
+        place: pair,
+        reply: 0,
+    }
+}
