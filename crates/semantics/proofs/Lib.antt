@@ -1,4 +1,4 @@
--- The laws of a case's meaning and the theorems about levels, stability, solving and denial.
+-- The laws of a case's meaning and the theorems about levels, stability, solving, denial and document 02's points.
 pub mod Pairs
 pub mod Nesting
 pub mod Parking
@@ -7,6 +7,7 @@ pub mod Thresholds
 pub mod Levels
 pub mod Solved
 pub mod Held
+pub mod States
 pub mod Rounds
 pub mod Paths
 pub mod Denial

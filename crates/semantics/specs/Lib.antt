@@ -1,4 +1,5 @@
--- What a case means, in the order of document 01: paths, values, levels and stability, solving, denial, the four operations, totals by fitting, and the old code.
+-- What a case means, in the order of document 01: paths, values, levels and stability, solving, denial, the four operations, totals by
+-- fitting, the old code, and unfinished solves.
 pub mod Paths
 pub mod Values
 pub mod Nested

@@ -1,4 +1,4 @@
-// What a case means: the values of a pair, and what solving, checking and ranking answer. Definitions in specs/, laws in proofs/.
+// What a case means: the values of a pair, what the calls answer, and the state of an unfinished solve. Definitions in specs/, laws in proofs/.
 pub mod answers;
 pub mod refusals;
 pub mod unfinished;

@@ -1,4 +1,4 @@
--- The demands as theorems about the definitions of the entry points, and the starred samples.
+-- The demands and document 02's points as theorems about the definitions of the entry points, and the samples.
 pub mod Demands
 pub mod Ranking
 pub mod Samples

@@ -10,7 +10,7 @@ use mathlib.Core.List.{List, [], _∷_}
 use lib.ListN.{length, getD, take, drop, length-append, length-replicate, getD-replicate, List·getD-append}
 use lib.Seq.{ext-getD, length-take-le, getD-take, take-at}
 use lib.Dec.{eqb, leb}
-use borrow.Author.Tests.{le-leb, lt-leb, ne-eqb, eq-eqb, lt-ltb, le-ltb}
+use borrow.Author.Tests.{le-leb, lt-leb, eq-eqb}
 use Rattle.fixpoint.specs.Sets.{has, _⊆_}
 use Rattle.fixpoint.specs.Stages.{lower, upper}
 use Rattle.fixpoint.proofs.Lists.{bool-cases, lt-cases}
@@ -25,12 +25,13 @@ use Rattle.semantics.specs.declared.unfinished.Certainty.the-variants.{Impossib
 use Rattle.semantics.specs.Operations.{caseOf, solveAnswer, solveValues}
 use Rattle.semantics.specs.Solving.{rounds, solvedT, solvedP, valuesOf, solvedValues}
 use Rattle.semantics.specs.Stability.{nextSet}
-use Rattle.semantics.specs.Unfinished.{opening, heldInput, begun, heldCase, workedP, nextT, afterRound, advanced, advanceAnswer}
-use Rattle.semantics.specs.Unfinished.{certainty, replyNumber, certainOf, asked}
+use Rattle.semantics.specs.Unfinished.{opened, opening, heldInput, begun, heldCase, workedP, nextT, afterRound, advanced, advanceAnswer}
+use Rattle.semantics.specs.Unfinished.{certainty, certainOf}
 use Rattle.semantics.specs.Values.{pairCount}
 use Rattle.semantics.proofs.Kernel.{rule-system}
 use Rattle.semantics.proofs.Refusing.{zero-cases}
 use Rattle.semantics.proofs.Held.{copied-whole, pairs-fit, nothing, reads-input, refused-input}
+use Rattle.semantics.proofs.States.{after-end}
 use Rattle.semantics.proofs.Rounds.{value-sure, settled-T, worked-P, next-T, last-round}
 use Rattle.semantics.proofs.Solved.{value-of, values-length, solved-length}
 use Rattle.theorems.specs.Demands.{Reads, SolvedCase, roundT}
@@ -132,24 +133,10 @@ module _ (c : Case) (i : ℕ) (u : Unfinished) (st : Stands c i u) (h : i < roun
 
 -- ---- Any state
 
--- "one after it alters nothing"
-pub after-end : (u : Unfinished) → (u .over ≡ 0 → ⊥) → advanced u ≡ u
-unfolding advanced
-after-end u h = rw (ne-eqb (u .over) 0 h)
-
 -- an advance keeps the bytes that are held
 advanced-bytes : (u : Unfinished) → take (advanced u .length) (advanced u .bytes) ≡ take (u .length) (u .bytes)
 unfolding advanced afterRound
 advanced-bytes u = ⊎-elim (λ e. rw e) (λ e. rw e) (bool-cases (eqb (u .over) 0))
-
--- "21 pair not below the pair count, place the pair, the only check of a question"
-pub asked-beyond : (u : Unfinished) (k : ℕ) → u .pairs ≤ k → asked u k ≡ record { number = 21; place = k; reply = 0 }
-unfolding asked
-asked-beyond u k h = rw (le-ltb k (u .pairs) h)
-
-pub asked-within : (u : Unfinished) (k : ℕ) → k < u .pairs → asked u k ≡ record { number = 0; place = 0; reply = replyNumber (certainOf u k) }
-unfolding asked
-asked-within u k h = rw (lt-ltb k (u .pairs) h)
 
 -- ---- What a state replies
 
@@ -192,7 +179,7 @@ module _ (c : Case) (i : ℕ) (u : Unfinished) (st : Stands c i u) (k : ℕ) (b 
 
 module _ (s : List ℕ) where
   first-stands : Stands (heldBy s) 0 (solving s 0)
-  unfolding solving after begun opening heldCase heldBy lastP lower
+  unfolding solving after begun opening opened heldCase heldBy lastP lower
   first-stands =
       let c = caseOf (heldInput s) in
       record {
@@ -229,7 +216,7 @@ module _ (s : List ℕ) where
 
   -- "it keeps its own copy of the case as read"
   held-bytes : (i : ℕ) → take (solving s i .length) (solving s i .bytes) ≡ heldInput s
-  unfolding solving after begun opening
+  unfolding solving after begun opening opened
   held-bytes zero = copied-whole 8192 (heldInput s) (outcome-length (heldInput s) (input-reads s))
   held-bytes (suc i) = advanced-bytes (solving s i) ∙ held-bytes i
 

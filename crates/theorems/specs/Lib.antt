@@ -1,4 +1,4 @@
--- What the demands promise, in the words of their statements, and the starred samples of document 01.
+-- What the demands promise, in the words of their statements, the words of unfinished solves, and the samples of both documents.
 pub mod Demands
 pub mod Samples
 pub mod Unfinished

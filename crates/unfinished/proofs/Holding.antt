@@ -8,7 +8,6 @@ use mathlib.Core.List.{List}
 use lib.ListN.{length, take}
 use lib.Dec.{eqb}
 use lib.Seq.{take-all, take-length, length-take-le}
-use borrow.Author.Tests.{eq-eqb, ne-eqb}
 use Rattle.fixpoint.proofs.Lists.{lt-cases}
 use Rattle.cases.specs.Reading.{Outcome}
 use Rattle.cases.specs.Rows.{caseIn}
@@ -17,6 +16,7 @@ use Rattle.reader.specs.Parsing.{ParsedAs}
 use Rattle.semantics.specs.Operations.{caseOf}
 use Rattle.semantics.specs.Unfinished.{heldCase, afterRound, advanced, advanceAnswer}
 use Rattle.semantics.specs.declared.unfinished.Unfinished.{Unfinished}
+use Rattle.semantics.proofs.States.{before-end, after-end}
 use Rattle.unfinished.specs.Rounds.{ValuesWorked}
 
 -- what is cut off at the end of the array was not there
@@ -48,12 +48,10 @@ module _ (u : Unfinished) {n : ℕ} {p : Parsed} {rows : List ℕ} (long : lengt
 -- a round is taken unless the end is reached
 module _ (u : Unfinished) where
   pub round-due : {r : Unfinished} → u .over ≡ 0 → r ≡ afterRound (heldCase u) u → r ≡ advanced u
-  unfolding advanced
-  round-due z e = e ∙ ap (λ b. cond b (afterRound (heldCase u) u) u) (sym (eq-eqb (u .over) 0 z))
+  round-due z e = e ∙ sym (before-end u z)
 
   pub round-over : (u .over ≡ 0 → ⊥) → u ≡ advanced u
-  unfolding advanced
-  round-over n = ap (λ b. cond b (afterRound (heldCase u) u) u) (sym (ne-eqb (u .over) 0 n))
+  round-over n = sym (after-end u n)
 
 -- whether the end is reached is told of the state after the round
 pub advance-told : (u : Unfinished) {after : Unfinished} {told : ℕ} → after ≡ advanced u → told ≡ cond (not (eqb (after .over) 0)) 1 0

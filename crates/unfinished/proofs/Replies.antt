@@ -5,10 +5,11 @@ use mathlib.Core.Bool.{Bool, true, false, not}
 use mathlib.Core.List.{List}
 use lib.ListN.{length, getD, List·getD-eq-default}
 use lib.Dec.{eqb}
-use borrow.Author.Tests.{le-leb, lt-leb, eq-eqb, ne-eqb, lt-ltb, le-ltb}
+use borrow.Author.Tests.{le-leb, lt-leb, eq-eqb, ne-eqb}
 use Rattle.semantics.specs.Unfinished.{certainty, certainOf, replyNumber, asked}
 use Rattle.semantics.specs.declared.unfinished.Unfinished.{Unfinished}
 use Rattle.semantics.specs.declared.unfinished.Certainty.{Certainty}
+use Rattle.semantics.proofs.States.{asked-within, asked-beyond}
 use Rattle.semantics.specs.declared.unfinished.Certainty.the-variants.{Impossible, Open, Sure, NotYet}
 
 pub behind-end : (l : List ℕ) (k : ℕ) → length l ≤ k → 0 ≡ getD l k 0
@@ -38,9 +39,7 @@ module _ (u : Unfinished) (pair : ℕ) where
   certain-said e f = rw (← e) f
 
   pub reply-said : {k : Certainty} {n : ℕ} → pair < u .pairs → k ≡ certainOf u pair → n ≡ replyNumber k → record { number = 0; place = 0; reply = n } ≡ asked u pair
-  unfolding asked
-  reply-said h e f = rw (lt-ltb pair (u .pairs) h) (ap (λ n. record { number = 0; place = 0; reply = n }) (f ∙ ap replyNumber e))
+  reply-said h e f = ap (λ n. record { number = 0; place = 0; reply = n }) (f ∙ ap replyNumber e) ∙ sym (asked-within u pair h)
 
   pub question-refused : u .pairs ≤ pair → record { number = 21; place = pair; reply = 0 } ≡ asked u pair
-  unfolding asked
-  question-refused h = rw (le-ltb pair (u .pairs) h)
+  question-refused h = sym (asked-beyond u pair h)

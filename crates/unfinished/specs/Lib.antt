@@ -1,3 +1,2 @@
--- A state at its beginning, and what one round leaves.
-pub mod States
+-- What one round leaves.
 pub mod Rounds

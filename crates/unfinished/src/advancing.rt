@@ -1,12 +1,18 @@
 // Advancing: one round on a state of any contents. The case is read again from its bytes; what does not read is the case without anything.
-use crate::beginning::least;
 use crate::working::work_round;
 use reader::reading::parse;
 use semantics::unfinished::Advanced;
 use semantics::unfinished::Unfinished;
 ghost use mathlib.Core.Path.{_≡_};
 ghost use mathlib.Core.Bool.{cond};
+ghost use Prim.Native.Nat.{min};
 ghost use Rattle.semantics.specs.Unfinished.{heldCase, afterRound, advanced, advanceAnswer};
+
+fn least(a: usize, b: usize) -> usize
+    ensures { λ r. ⌜ r ≡ min a b ⌝ }
+{
+    if a <= b { a } else { b }
+}
 
 fn one_if(test: bool) -> usize
     ensures { λ r. ⌜ r ≡ cond test 1 0 ⌝ }

@@ -5,7 +5,7 @@ use Rattle.unfinished.proofs.beginning.open_input.Statement.{statement}
 use Rattle.unfinished.proofs.beginning.open_input.Tie as tie
 
 returns : tie.Need-returns
-returns c = input-opened _ _ (c .before .copy .ensures)
+returns c = search input-opened
 
 pub open-input-spec : {M : Type 1} → statement M
 open-input-spec = tie.close (tie.spec (λ c. search needs) (λ c κs. search needs) returns)
