@@ -1,5 +1,5 @@
-//! Times of read, solve, check and rank from 16 to 128 nodes, beside clingo and SWI-Prolog on the same cases, all in one run. Prints a Markdown table.
-//! The solvers get the paths worked out: clingo ground rules, SWI-Prolog the fillers as facts. Their times hold their start; the judge's are those of a call.
+//! Times of read, solve, check and rank from 16 to 512 nodes, beside clingo and SWI-Prolog on the same cases, all in one run; then how the time of solve grows from size to size. Prints Markdown tables.
+//! The solvers get the paths worked out: clingo ground rules, SWI-Prolog as facts the fillers of the paths that shapes name. Their times hold their start; the judge's are those of a call. All are times of the processor.
 
 #[allow(dead_code)]
 #[path = "../tests/differential/generator.rs"]
@@ -19,8 +19,9 @@ use facts::shape_facts;
 use families::*;
 use interface::*;
 use reference::{Case, Shape};
+use std::collections::BTreeSet;
 use std::process::{Command, Stdio};
-use std::time::{Duration, Instant};
+use std::time::Duration;
 
 // ---- The judge
 
@@ -37,10 +38,17 @@ impl Tables {
     }
 }
 
+/// The one in the middle of some that ascend.
+fn middle(ascending: &[f64]) -> f64 {
+    ascending[ascending.len() / 2]
+}
+
+/// The system's clock of what this thread has had of a processor: the middle of many times by it is as if nothing else ran on the machine. The least is not, since now and then the system takes off too much for others.
+const THREAD: i32 = 3;
+
 /// The median of repeated calls, in seconds.
 fn median(call: impl FnMut()) -> f64 {
-    let times = times(call);
-    times[times.len() / 2]
+    middle(&times(THREAD, call))
 }
 
 /// The peak of memory of a process that reads, solves, checks and ranks one case, in kilobytes; with no calls, that of the bare process.
@@ -58,14 +66,19 @@ fn once(file: &str) {
     print!("{}", line.trim().trim_end_matches(" kB"));
 }
 
+/// This program once more.
+fn me() -> Command {
+    Command::new(std::env::current_exe().unwrap())
+}
+
 fn peak(file: &str) -> usize {
-    let me = std::env::current_exe().unwrap();
-    let out = Command::new(me).args(["--once", file]).output().unwrap().stdout;
+    let out = me().args(["--once", file]).output().unwrap().stdout;
     String::from_utf8(out).unwrap().parse().unwrap_or(0)
 }
 
 // ---- The solvers
 
+/// What a process has used: seconds and their millionths, the program's and the system's for it, and a peak of memory in kilobytes.
 #[repr(C)]
 struct Usage {
     times: [i64; 4],
@@ -75,29 +88,42 @@ struct Usage {
 
 extern "C" {
     fn wait4(id: i32, status: *mut i32, options: i32, usage: *mut Usage) -> i32;
+    fn clock_getcpuclockid(id: i32, clock: *mut i32) -> i32;
 }
 
 /// What the last solver wrote.
 const OUT: &str = "target/tests/bench/out";
 
 /// Seconds and peak of memory in kilobytes, or none where the time was over.
-fn run(limit: f64, command: &mut Command) -> Option<(f64, usize)> {
-    let start = Instant::now();
+type Run = Option<(f64, usize)>;
+
+/// Runs a solver from a process of its own: a peak counts from that of the process which starts it, and this one holds whole cases.
+fn run(limit: f64, command: &[&str]) -> Run {
+    let ended = me().args(["--run", &limit.to_string()]).args(command).output().unwrap();
+    assert!(ended.status.success(), "{command:?} could not be run");
+    let said = String::from_utf8(ended.stdout).unwrap();
+    let (seconds, peak) = said.split_once(' ')?;
+    Some((seconds.parse().unwrap(), peak.parse().unwrap()))
+}
+
+/// That process: says the seconds and the peak, or nothing.
+fn run_here(limit: f64, command: &[String]) {
     let out = std::fs::File::create(OUT).unwrap();
-    let mut child = command.stdin(Stdio::null()).stdout(out).stderr(Stdio::null()).spawn().unwrap();
+    let mut child = Command::new(&command[0]).args(&command[1..]).stdin(Stdio::null()).stdout(out).stderr(Stdio::null()).spawn().unwrap();
     let mut usage = Usage { times: [0; 4], peak: 0, rest: [0; 13] };
-    loop {
-        let mut status = 0;
-        if unsafe { wait4(child.id() as i32, &mut status, 1, &mut usage) } != 0 {
-            return Some((start.elapsed().as_secs_f64(), usage.peak as usize));
-        }
-        if start.elapsed().as_secs_f64() > limit {
+    let (mut status, mut used) = (0, 0);
+    let id = child.id() as i32;
+    assert_eq!(unsafe { clock_getcpuclockid(id, &mut used) }, 0);
+    while unsafe { wait4(id, &mut status, 1, &mut usage) } == 0 {
+        if clock(used) > limit {
             child.kill().ok();
             child.wait().ok();
-            return None;
+            return;
         }
-        std::thread::sleep(Duration::from_micros(300));
+        std::thread::sleep(Duration::from_millis(2));
     }
+    let [own, own_millionths, system, system_millionths] = usage.times.map(|part| part as f64);
+    print!("{} {}", own + system + (own_millionths + system_millionths) / 1e6, usage.peak);
 }
 
 /// The pairs of an atom in the last answer that clingo wrote.
@@ -151,12 +177,22 @@ fn ground(case: &Case) -> String {
     text
 }
 
+/// The paths that shapes name: a solver need not read the fillers of others.
+fn named_paths(case: &Case) -> BTreeSet<usize> {
+    let of_shape = |shape: &Shape| match *shape {
+        Shape::Same(p, q) => vec![p, q],
+        Shape::All(p, _) | Shape::AtLeast(_, p, _) => vec![p],
+        _ => vec![],
+    };
+    case.shapes.iter().flat_map(of_shape).collect()
+}
+
 /// The program of tests/solver for SWI-Prolog with the fillers as facts in the place of its rules for paths.
 fn prolog(case: &Case) -> String {
     let text = std::fs::read_to_string("tests/solver/judge.pl").unwrap();
     let text = text.replace(":- table fill/4, ", ":- discontiguous fill/4.\n:- table ").replace("fill(K,I,A,B) :- path(K,I,R), step(R,K,I,A,B).\n", "");
     let mut facts = format!("case(0,{},{}).\n", case.nodes, case.shapes.len());
-    for p in 0..case.paths.len() {
+    for p in named_paths(case) {
         for a in 0..case.nodes {
             for b in case.fillers(p, a) {
                 facts += &format!("fill(0,{p},{a},{b}).\n");
@@ -167,75 +203,153 @@ fn prolog(case: &Case) -> String {
     format!("{text}\n{facts}:- initialization((answers, halt)).\n")
 }
 
-// ---- The table
+// ---- One case
+
+/// What the judge answers to a case, and how long its calls take.
+struct Judged {
+    rounds: usize,
+    values: Vec<u8>,
+    highest: usize,
+    read: f64,
+    rank: f64,
+    check: f64,
+    solve: f64,
+    peak: usize,
+}
+
+fn judged(bytes: &[u8], pairs: usize) -> Judged {
+    let mut t = Tables::new();
+    let read = median(|| { judge_read(bytes); });
+    let rank = median(|| { judge_rank(bytes, &mut t.strata); });
+    let mut answer = [0; 8];
+    let solve = median(|| answer = judge_solve(bytes, &mut t.values, &mut t.levels, &mut t.verdicts));
+    assert_eq!(answer[0], 0);
+    let check = median(|| assert_eq!(judge_check(bytes, &t.values, &t.levels)[0], 0));
+    let highest = t.levels[..2 * pairs].chunks(2).map(|l| l[0] as usize + 256 * l[1] as usize).max().unwrap_or(0);
+    Judged { rounds: answer[2], values: t.values[..pairs].to_vec(), highest, read, rank, check, solve, peak: peak(&file("case", bytes)) }
+}
+
+impl Judged {
+    fn cells(&self) -> Vec<String> {
+        let Judged { rounds, highest, read, rank, check, solve, .. } = self;
+        [vec![rounds.to_string(), highest.to_string()], [read, rank, check, solve].map(|s| time(*s)).to_vec(), vec![megabytes(self.peak)]].concat()
+    }
+}
+
+/// The same case with the solvers: clingo for one stable assignment, clingo for what solve answers, SWI-Prolog. Where they end in time they have to agree with the values.
+fn beside(limit: f64, case: &Case, values: &[u8]) -> [Run; 3] {
+    let lp = file("case.lp", ground(case).as_bytes());
+    let pl = file("case.pl", prolog(case).as_bytes());
+    let clingo = |words: &[&str]| run(limit, &[&["clingo", "--warn=none", &lp], words].concat());
+    let one = clingo(&["1"]);
+    let cautious = clingo(&["0", "--enum-mode=cautious"]);
+    if cautious.is_some() {
+        agree("clingo", last_answer(case, "v").iter().zip(values).all(|(sure, v)| *sure == (*v == 2)));
+    }
+    let brave = if cautious.is_some() { clingo(&["0", "--enum-mode=brave"]) } else { None };
+    if brave.is_some() {
+        agree("clingo", last_answer(case, "p").iter().zip(values).all(|(possible, v)| *possible == (*v > 0)));
+    }
+    let solved = cautious.zip(brave).map(|(c, b)| (c.0 + b.0, c.1.max(b.1)));
+    let swipl = run(limit, &["swipl", "--stack-limit=8g", "-q", "-f", &pl]);
+    if swipl.is_some() {
+        let text: String = values.iter().map(|v| v.to_string()).collect();
+        agree("SWI-Prolog", std::fs::read_to_string(OUT).unwrap().trim() == format!("0 {text}"));
+    }
+    [one, solved, swipl]
+}
+
+/// Their times, those in parts of solve's, and what memory the last two took.
+fn solver_cells(limit: f64, solve: f64, runs: [Run; 3]) -> Vec<String> {
+    let shown = runs.map(|run| run.map_or(format!("> {limit} s"), |(s, _)| time(s)));
+    let ratios = runs.map(|run| run.map_or(format!("> {}", parts(limit / solve)), |(s, _)| parts(s / solve)));
+    let memory = runs.map(|run| run.map_or("".to_string(), |(_, kilobytes)| megabytes(kilobytes)));
+    [&shown[..], &ratios, &memory[1..]].concat()
+}
+
+fn parts(ratio: f64) -> String {
+    if ratio < 10.0 { format!("{ratio:.1}") } else { format!("{ratio:.0}") }
+}
+
+fn megabytes(kilobytes: usize) -> String {
+    format!("{:.1}", kilobytes as f64 / 1024.0)
+}
+
+/// Stores a file for the solvers and for a process of the judge's, and answers its path.
+fn file(name: &str, content: &[u8]) -> String {
+    let path = format!("target/tests/bench/{name}");
+    std::fs::write(&path, content).expect("target/tests/bench");
+    path
+}
+
+// ---- The tables
+
+const JUDGE: [&str; 9] = ["case", "nodes", "rounds", "highest level", "read", "rank", "check", "solve", "judge MB"];
+const SOLVERS: [&str; 8] = ["clingo, one", "clingo, solved", "SWI-Prolog", "clingo, one / solve", "clingo, solved / solve", "SWI-Prolog / solve", "clingo MB", "SWI-Prolog MB"];
+
+fn line(cells: &[String]) {
+    println!("| {} |", cells.join(" | "));
+}
+
+fn header(names: &[String]) {
+    line(names);
+    println!("|{}", "---|".repeat(names.len()));
+}
+
+/// What the start alone takes.
+fn starts(limit: f64) {
+    let empty = file("empty.lp", b"");
+    let halt = file("empty.pl", b":- initialization(halt).\n");
+    let least = |runs: Vec<Run>| runs.into_iter().flatten().min_by(|a, b| a.0.total_cmp(&b.0)).unwrap_or((0.0, 0));
+    let clingo = least((0..5).map(|_| run(limit, &["clingo", &empty])).collect());
+    let swipl = least((0..5).map(|_| run(limit, &["swipl", "-q", "-f", &halt])).collect());
+    println!("Start alone: clingo {} and {} MB, SWI-Prolog {} and {} MB; a bare process of the judge's {} MB.", time(clingo.0), megabytes(clingo.1), time(swipl.0), megabytes(swipl.1), megabytes(peak("")));
+    println!("A ratio is the solver's time, start included, to that of solve in the same run; > is a solver stopped after {limit} s. Clingo's 'one' finds any one stable assignment, 'solved' the cautious and the brave consequences, which is what solve answers.\n");
+}
+
+/// How solve's times grow, by family and size. Where a family has several cases of a size, that of the one in the middle.
+fn growth(sizes: &[usize], grown: &[(&str, Vec<f64>)]) {
+    println!("\nHow the time of solve grows from {} to {} nodes, and how many times that of the size before it is:\n", sizes[0], sizes[sizes.len() - 1]);
+    let in_parts = sizes.windows(2).flat_map(|pair| [pair[1].to_string(), format!("{} / {}", pair[1], pair[0])]);
+    header(&["case".to_string(), sizes[0].to_string()].into_iter().chain(in_parts).collect::<Vec<_>>());
+    for (name, solves) in grown {
+        let in_parts = solves.windows(2).flat_map(|pair| [time(pair[1]), parts(pair[1] / pair[0])]);
+        line(&[name.to_string(), time(solves[0])].into_iter().chain(in_parts).collect::<Vec<_>>());
+    }
+}
 
 fn main() {
     let words: Vec<String> = std::env::args().skip(1).collect();
-    let word = |name: &str| words.iter().position(|w| w == name).and_then(|i| words.get(i + 1));
-    if let Some(file) = word("--once") {
-        return once(file);
+    match &words[..] {
+        [word, file] if word == "--once" => return once(file),
+        [word, limit, command @ ..] if word == "--run" => return run_here(limit.parse().unwrap(), command),
+        _ => {}
     }
-    let limit: f64 = word("--limit").map_or(20.0, |w| w.parse().expect("--limit SECONDS"));
-    let sizes: Vec<usize> = word("--nodes").map_or(vec![16, 32, 64, 128], |w| w.split(',').map(|n| n.parse().expect("--nodes 16,32")).collect());
+    let alone = words.contains(&"--alone".to_string());
+    let limit: f64 = word(&words, "--limit").map_or(20.0, |w| w.parse().expect("--limit SECONDS"));
     std::fs::create_dir_all("target/tests/bench").expect("target/tests/bench");
-    let file = |name: &str, content: &[u8]| {
-        let path = format!("target/tests/bench/{name}");
-        std::fs::write(&path, content).expect("target/tests/bench");
-        path
-    };
-
-    // what the start alone takes
-    let empty = file("empty.lp", b"");
-    let halt = file("empty.pl", b":- initialization(halt).\n");
-    let least = |runs: Vec<Option<(f64, usize)>>| runs.into_iter().flatten().min_by(|a, b| a.0.total_cmp(&b.0)).unwrap_or((0.0, 0));
-    let clingo_start = least((0..5).map(|_| run(limit, Command::new("clingo").arg(&empty))).collect());
-    let swipl_start = least((0..5).map(|_| run(limit, Command::new("swipl").args(["-q", "-f", &halt]))).collect());
-    println!("Start alone: clingo {} and {:.1} MB, SWI-Prolog {} and {:.1} MB; a bare process of the judge's {:.1} MB.", time(clingo_start.0), clingo_start.1 as f64 / 1024.0, time(swipl_start.0), swipl_start.1 as f64 / 1024.0, peak("") as f64 / 1024.0);
-    println!("A ratio is the solver's time, start included, to that of solve in the same run; > is a solver stopped after {limit} s. Clingo's 'one' finds any one stable assignment, 'solved' the cautious and the brave consequences, which is what solve answers.\n");
-    println!("| case | nodes | rounds | highest level | read | rank | check | solve | clingo, one | clingo, solved | SWI-Prolog | clingo, one / solve | clingo, solved / solve | SWI-Prolog / solve | judge MB | clingo MB | SWI-Prolog MB |");
-    println!("|---|---|---|---|---|---|---|---|---|---|---|---|---|---|---|---|---|");
-    for name in FAMILIES {
-        for &n in &sizes {
-            for seed in 1..=seeds(name) {
-                let bytes = family(name, n, seed);
-                let case = reference::read(&bytes).expect("a sound case");
-                let mut t = Tables::new();
-                let read = median(|| { judge_read(&bytes); });
-                let rank = median(|| { judge_rank(&bytes, &mut t.strata); });
-                let mut answer = [0; 8];
-                let solve = median(|| answer = judge_solve(&bytes, &mut t.values, &mut t.levels, &mut t.verdicts));
-                assert_eq!(answer[0], 0);
-                let check = median(|| assert_eq!(judge_check(&bytes, &t.values, &t.levels)[0], 0));
-                let highest = t.levels[..2 * case.pairs()].chunks(2).map(|l| l[0] as usize + 256 * l[1] as usize).max().unwrap_or(0);
-                let judge_peak = peak(&file("case", &bytes));
-
-                let lp = file("case.lp", ground(&case).as_bytes());
-                let pl = file("case.pl", prolog(&case).as_bytes());
-                let clingo = |words: &[&str]| run(limit, Command::new("clingo").args(["--warn=none"]).args(words).arg(&lp));
-                let one = clingo(&["1"]);
-                let cautious = clingo(&["0", "--enum-mode=cautious"]);
-                let values = &t.values[..case.pairs()];
-                if cautious.is_some() {
-                    agree("clingo", last_answer(&case, "v").iter().zip(values).all(|(sure, v)| *sure == (*v == 2)));
-                }
-                let brave = if cautious.is_some() { clingo(&["0", "--enum-mode=brave"]) } else { None };
-                if brave.is_some() {
-                    agree("clingo", last_answer(&case, "p").iter().zip(values).all(|(possible, v)| *possible == (*v > 0)));
-                }
-                let solved = cautious.zip(brave).map(|(c, b)| (c.0 + b.0, c.1.max(b.1)));
-                let swipl = run(limit, Command::new("swipl").args(["--stack-limit=8g", "-q", "-f", &pl]));
-                if swipl.is_some() {
-                    let text: String = values.iter().map(|v| v.to_string()).collect();
-                    agree("SWI-Prolog", std::fs::read_to_string(OUT).unwrap().trim() == format!("0 {text}"));
-                }
-                let shown = |run: &Option<(f64, usize)>| run.map_or(format!("> {limit} s"), |(s, _)| time(s));
-                let ratio = |run: &Option<(f64, usize)>| run.map_or(format!("> {:.0}", limit / solve), |(s, _)| if s / solve < 10.0 { format!("{:.1}", s / solve) } else { format!("{:.0}", s / solve) });
-                let memory = |run: &Option<(f64, usize)>| run.map_or("".to_string(), |(_, kb)| format!("{:.1}", kb as f64 / 1024.0));
-                println!(
-                    "| {name} | {n} | {} | {highest} | {} | {} | {} | {} | {} | {} | {} | {} | {} | {} | {:.1} | {} | {} |",
-                    answer[2], time(read), time(rank), time(check), time(solve), shown(&one), shown(&solved), shown(&swipl), ratio(&one), ratio(&solved), ratio(&swipl), judge_peak as f64 / 1024.0, memory(&solved), memory(&swipl)
-                );
-            }
-        }
+    if !alone {
+        starts(limit);
     }
+    let solvers: &[&str] = if alone { &[] } else { &SOLVERS };
+    header(&JUDGE.iter().chain(solvers).map(|name| name.to_string()).collect::<Vec<_>>());
+    let sizes = sizes(&words);
+    let mut grown = Vec::new();
+    for name in names(&words) {
+        let mut by_size = Vec::new();
+        for &n in &sizes {
+            let mut solves = Vec::new();
+            for bytes in cases(name, n) {
+                let case = reference::read(&bytes).expect("a sound case");
+                let judged = judged(&bytes, case.pairs());
+                solves.push(judged.solve);
+                let solvers = if alone { vec![] } else { solver_cells(limit, judged.solve, beside(limit, &case, &judged.values)) };
+                line(&[vec![name.to_string(), n.to_string()], judged.cells(), solvers].concat());
+            }
+            solves.sort_by(f64::total_cmp);
+            by_size.push(middle(&solves));
+        }
+        grown.push((name, by_size));
+    }
+    growth(&sizes, &grown);
 }

@@ -1,5 +1,5 @@
 //! Times of each call with two libraries in one run, by turns: the least of many calls with each, and the second's in parts of the first's.
-//! Prints a Markdown table. The libraries are shared ones, loaded side by side. Where the first does not read a case, or has no such call, there is nothing to compare.
+//! Prints a Markdown table. The libraries are shared ones, loaded side by side. Where the first does not read a case, as one that knows no 00 does not above 128 nodes, or has no such call, there is nothing to compare.
 
 #[allow(dead_code)]
 #[path = "../tests/differential/generator.rs"]
@@ -109,40 +109,47 @@ fn advances(advance: unsafe extern "C" fn(State) -> With<1>, mut state: State) -
 
 fn main() {
     let words: Vec<String> = std::env::args().skip(1).collect();
-    let word = |name: &str| words.iter().position(|w| w == name).and_then(|i| words.get(i + 1));
-    let turns: usize = word("--turns").map_or(5, |w| w.parse().expect("--turns N"));
-    let sizes: Vec<usize> = word("--nodes").map_or(vec![16, 32, 64, 128], |w| w.split(',').map(|n| n.parse().expect("--nodes 16,32")).collect());
+    let turns: usize = word(&words, "--turns").map_or(5, |w| w.parse().expect("--turns N"));
+    let calls: Vec<&str> = CALLS.into_iter().filter(|name| word(&words, "--calls").is_none_or(|list| list.split(',').any(|asked| asked == *name))).collect();
     let libraries = [Library::load(&words[0]), Library::load(&words[1])];
-    println!("| case | nodes | {} | {} |", CALLS.join(" | "), CALLS.map(|name| format!("{name}, ratio")).join(" | "));
-    println!("|{}", "---|".repeat(2 + 2 * CALLS.len()));
-    for name in FAMILIES {
-        for &n in &sizes {
-            for seed in 1..=seeds(name) {
-                let case = family(name, n, seed);
-                let mut t = Tables { values: [0; 4096], levels: [0; 8192], verdicts: [0; 256], strata: [0; 32], begun: Answer([0; STATE]) };
-                // a time that was not taken is without end
-                let mut least = [[f64::INFINITY; CALLS.len()]; 2];
-                let reads: Vec<bool> = libraries.iter().map(|library| call(library, "read", &case, &mut t) == Some(0)).collect();
-                let rounds: Vec<Option<usize>> = libraries.iter().map(|library| call(library, "solve", &case, &mut t)).collect();
-                assert!(reads[1] && (!reads[0] || rounds[0] == rounds[1]), "rounds of {name}");
-                call(&libraries[1], "begin", &case, &mut t);
-                assert!([None, rounds[1]].contains(&call(&libraries[1], "all advances", &case, &mut t)), "advances of {name}");
-                for _ in 0..turns {
-                    for i in (0..2).filter(|i| reads[*i]) {
-                        call(&libraries[i], "begin", &case, &mut t);
-                        for (which, name) in CALLS.into_iter().enumerate() {
-                            if call(&libraries[i], name, &case, &mut t).is_some() {
-                                least[i][which] = least[i][which].min(times(|| { call(&libraries[i], name, &case, &mut t); })[0]);
-                            }
-                        }
-                    }
-                }
-                let taken = |seconds: f64, shown: String| if seconds.is_finite() { shown } else { "–".to_string() };
-                let after: Vec<String> = least[1].iter().map(|s| taken(*s, time(*s))).collect();
-                let ratio = |i: usize| taken(least[0][i] + least[1][i], format!("{:.2}", least[1][i] / least[0][i]));
-                let ratios: Vec<String> = (0..CALLS.len()).map(ratio).collect();
-                println!("| {name} | {n} | {} | {} |", after.join(" | "), ratios.join(" | "));
+    println!("| case | nodes | {} | {} |", calls.join(" | "), calls.iter().map(|name| format!("{name}, ratio")).collect::<Vec<_>>().join(" | "));
+    println!("|{}", "---|".repeat(2 + 2 * calls.len()));
+    for name in names(&words) {
+        for n in sizes(&words) {
+            for case in cases(name, n) {
+                compare(&libraries, &calls, turns, name, n, &case);
             }
         }
     }
+}
+
+/// The system's clock that goes on whatever runs: the least of many times by it is that of calls which nothing broke into.
+const MACHINE: i32 = 1;
+
+/// A line of the table.
+fn compare(libraries: &[Library; 2], calls: &[&str], turns: usize, family: &str, n: usize, case: &[u8]) {
+    let mut t = Tables { values: [0; 4096], levels: [0; 8192], verdicts: [0; 256], strata: [0; 32], begun: Answer([0; STATE]) };
+    let reads: Vec<bool> = libraries.iter().map(|library| call(library, "read", case, &mut t) == Some(0)).collect();
+    let rounds: Vec<Option<usize>> = libraries.iter().map(|library| call(library, "solve", case, &mut t)).collect();
+    assert!(reads[1] && (!reads[0] || rounds[0] == rounds[1]), "rounds of {family}");
+    if calls.contains(&"all advances") {
+        call(&libraries[1], "begin", case, &mut t);
+        assert!([None, rounds[1]].contains(&call(&libraries[1], "all advances", case, &mut t)), "advances of {family}");
+    }
+    // a time that was not taken is without end
+    let mut least = [vec![f64::INFINITY; calls.len()], vec![f64::INFINITY; calls.len()]];
+    for _ in 0..turns {
+        for i in (0..2).filter(|i| reads[*i]) {
+            call(&libraries[i], "begin", case, &mut t);
+            for (which, name) in calls.iter().enumerate() {
+                if call(&libraries[i], name, case, &mut t).is_some() {
+                    least[i][which] = least[i][which].min(times(MACHINE, || { call(&libraries[i], name, case, &mut t); })[0]);
+                }
+            }
+        }
+    }
+    let taken = |seconds: f64, shown: String| if seconds.is_finite() { shown } else { "–".to_string() };
+    let after: Vec<String> = least[1].iter().map(|s| taken(*s, time(*s))).collect();
+    let ratios: Vec<String> = least[0].iter().zip(&least[1]).map(|(before, after)| taken(before + after, format!("{:.2}", after / before))).collect();
+    println!("| {family} | {n} | {} | {} |", after.join(" | "), ratios.join(" | "));
 }

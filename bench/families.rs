@@ -1,50 +1,124 @@
-//! The families of cases that are measured, by name, and the least time of repeated calls.
+//! The families of cases that are measured, which of them the command line asks for, and the times of repeated calls.
 
 use crate::generator::*;
 use std::time::{Duration, Instant};
 
-pub const FAMILIES: [&str; 15] = [
+const FAMILIES: [&str; 19] = [
     "random", "positive chain", "denial chain", "both chains", "open chain", "open beside denials", "open after denials", "dense, star", "deep paths",
-    "feeder, chain", "feeder, ring", "feeder, tree", "feeder, stars in stars", "feeder, star of a sequence", "parks of the last edge",
+    "feeder, chain", "feeder, ring", "feeder, tree", "feeder, stars in stars", "feeder, star of a sequence", "feeder, sequences of a star", "feeder, 7 paths", "feeder, 8 paths", "feeder, 16 paths", "parks of the last edge",
 ];
 
-/// How many cases a family has at one size.
-pub fn seeds(name: &str) -> u64 {
-    if name == "random" { 3 } else { 1 }
+/// How many cases a family has at one size. What paths it draws decides how long a case takes.
+fn seeds(name: &str) -> u64 {
+    if matches!(name, "random" | "deep paths") { 3 } else { 1 }
 }
 
-pub fn family(name: &str, n: usize, seed: u64) -> Vec<u8> {
+/// A case of a family. Up to 128 nodes it has no 00, so that a library which knows of none reads it too.
+/// What fills the shapes has as many as its profile lets in: 32 up to 128 nodes, 16 up to 256, 8 up to 512. So the positive chain has 31, 15 and 7, and two chains beside each other have 17 and 15, 9 and 7, 5 and 3: the pairs, and with them the longest walks, are about as many at 128, 256 and 512 nodes. A feeder has seven shapes at every size.
+fn family(name: &str, n: usize, seed: u64) -> Vec<u8> {
     let r = &mut Random(seed);
+    let shapes = most_shapes(n);
+    let (more, less) = (shapes / 2 + 1, shapes / 2 - 1);
     bytes(&match name {
         "random" => {
-            let size = Size { nodes: n, edges: 8 * n, order: Order::Any, layout: Layout::Scattered, nots: 3, grounds: 3, ..full(r) };
+            // up to 128 nodes eight edges a node, then the most that there can be
+            let edges = (8 * n).min(1024);
+            let profile = PROFILES.iter().position(|(most, _)| n <= *most).filter(|number| *number > 0);
+            let size = Size { profile, nodes: n, edges, shapes, order: Order::Any, layout: Layout::Scattered, nots: 3, grounds: 3, ..full(r) };
             random_case(r, &size)
         }
-        "positive chain" => positive_chain(n, 31),
-        "denial chain" => denial_chain(n, 32),
-        "both chains" => both_chains(n, 17, 15),
-        "open chain" => open_chain(n, 15, 17),
-        "open beside denials" => open_beside_denials(n, 17, 15),
-        "open after denials" => open_after_denials(n, 17, 15),
+        "positive chain" => positive_chain(n, shapes - 1),
+        "denial chain" => denial_chain(n, shapes),
+        "both chains" => both_chains(n, more, less),
+        "open chain" => open_chain(n, less, more),
+        "open beside denials" => open_beside_denials(n, more, less),
+        "open after denials" if shapes == 8 => open_after_denials_in_eight(n),
+        "open after denials" => open_after_denials(n, more, less),
         "dense, star" => dense_star(r, n),
         "feeder, chain" => feeder(n, Feeder::Chain, STAR),
         "feeder, ring" => feeder(n, Feeder::Ring, STAR),
         "feeder, tree" => feeder(n, Feeder::Tree, STAR),
         "feeder, stars in stars" => feeder(n, Feeder::Chain, STARS_IN_STARS),
         "feeder, star of a sequence" => feeder(n, Feeder::Ring, STAR_OF_SEQUENCE),
+        // a star over all nodes, and each later path its forerunner twice: every row of every path is full
+        "feeder, sequences of a star" => feeder_over(n, Feeder::Ring, (2..16).map(|i| if i == 2 { vec![0x14, 0] } else { vec![0x13, i - 1, i - 1] })),
+        "feeder, 7 paths" => feeder_of_steps(n, 7),
+        "feeder, 8 paths" => feeder_of_steps(n, 8),
+        "feeder, 16 paths" => feeder_of_steps(n, 16),
         "parks of the last edge" => parked_last(n),
         _ => deep_paths(r, n, &[0x13, 0x13, 0x14]),
     })
 }
 
-/// Times of repeated calls, in seconds, in ascending order: at least five, and more until a tenth of a second has passed.
-pub fn times(mut call: impl FnMut()) -> Vec<f64> {
+/// Open after denials as it fits into eight shapes: five for the open chain and three for the denials, the open chain starting from the denials alone, since a start at node 0 beside them takes two shapes more. All but the shapes is that of any case with eight over the same ring.
+fn open_after_denials_in_eight(n: usize) -> Commands {
+    let mut commands = denial_chain(n, 8);
+    let first = commands.iter().position(|command| command[0] >= 0x20).expect("shapes");
+    let shapes = [vec![0x24, 0], vec![0x22, 5, 0], vec![0x23, 1, 3], vec![0x27, 1, 2, 4], vec![0x27, 1, 2, 2], vec![0x24, 6], vec![0x24, 7], vec![0x27, 1, 0, 5]];
+    commands.splice(first..first + 8, shapes);
+    commands
+}
+
+/// A chain whose paths, so many with the two that every feeder has, lead one step further each: all are worked out, whichever a shape names. At 129 nodes the sets of seven still fit the table of 4,104 words, those of eight do not.
+fn feeder_of_steps(n: usize, paths: u8) -> Commands {
+    feeder_over(n, Feeder::Chain, (2..paths).map(|i| vec![0x13, if i == 2 { 0 } else { i - 1 }, 0]))
+}
+
+/// A feeder with paths that are made on the way.
+fn feeder_over(n: usize, kind: Feeder, paths: impl Iterator<Item = Vec<u8>>) -> Commands {
+    let paths: Vec<Vec<u8>> = paths.collect();
+    feeder(n, kind, &paths.iter().map(Vec::as_slice).collect::<Vec<_>>())
+}
+
+// ---- The command line
+
+/// What stands behind a word.
+pub fn word<'a>(words: &'a [String], name: &str) -> Option<&'a str> {
+    words.iter().position(|w| w == name).and_then(|i| words.get(i + 1)).map(String::as_str)
+}
+
+/// The names of the families to be measured: those that hold the word behind --only, or all.
+pub fn names(words: &[String]) -> Vec<&'static str> {
+    let part = word(words, "--only").unwrap_or("");
+    FAMILIES.into_iter().filter(|name| name.contains(part)).collect()
+}
+
+/// The sizes, in nodes.
+pub fn sizes(words: &[String]) -> Vec<usize> {
+    let sizes = word(words, "--nodes").unwrap_or("16,32,64,128,256,512");
+    sizes.split(',').map(|n| n.parse().expect("--nodes 16,32")).collect()
+}
+
+/// The cases of a family at a size.
+pub fn cases(name: &str, n: usize) -> Vec<Vec<u8>> {
+    (1..=seeds(name)).map(|seed| family(name, n, seed)).collect()
+}
+
+// ---- Times
+
+extern "C" {
+    fn clock_gettime(clock: i32, time: *mut [i64; 2]) -> i32;
+}
+
+/// How long a clock of the system has counted, in seconds.
+pub fn clock(which: i32) -> f64 {
+    let mut time = [0; 2];
+    assert_eq!(unsafe { clock_gettime(which, &mut time) }, 0);
+    time[0] as f64 + time[1] as f64 * 1e-9
+}
+
+/// Times of repeated calls by a clock, in seconds, in ascending order: at least five, and more until a tenth of a second has passed. Short calls are timed several at once, so that reading the clock does not count.
+pub fn times(which: i32, mut call: impl FnMut()) -> Vec<f64> {
+    let mut timed = |calls: usize| {
+        let start = clock(which);
+        (0..calls).for_each(|_| call());
+        (clock(which) - start) / calls as f64
+    };
+    let at_once = (20e-6 / timed(1)).ceil().clamp(1.0, 100.0) as usize;
     let (start, mut times) = (Instant::now(), Vec::new());
     while times.len() < 5 || (start.elapsed() < Duration::from_millis(100) && times.len() < 2000) {
-        let one = Instant::now();
-        call();
-        times.push(one.elapsed().as_secs_f64());
-        if one.elapsed() > Duration::from_secs(3) {
+        times.push(timed(at_once));
+        if times[times.len() - 1] > 3.0 {
             break;
         }
     }

@@ -2,16 +2,26 @@
  * old one, and ranks shapes by denial.
  *
  * Link with libjudge.a, which `rt staticlib judge` writes to target/staticlib/ (x86-64 Linux). The library keeps no state, allocates
- * nothing and calls nothing: any number of threads may call it at once, each on its own tables. A call needs less than 160 KiB of
- * stack, the states that it is handed and answers by value included; one without a state less than 96 KiB.
+ * nothing and calls nothing: any number of threads may call it at once, each on its own tables. How much stack each call needs is
+ * said below (JUDGE_READ_STACK and the others).
  *
  * Every slice is a pointer and a length in bytes. A length of 0 needs no valid pointer but a non-null, suitably aligned one: pass the
  * address of any byte. Slices of one call must not overlap where one of them is written. The library reads and writes nothing outside
  * them.
  *
- * A case is a string of commands; its format is described in the scope document, commands 03 and 28 in the requests. A pair is a shape
- * and a node, its number is shape * nodes + node, and the pair count is shapes * nodes, at most 4,096. A value is 0 violated,
+ * A case is a string of commands; its format is described in the scope document, commands 00, 03 and 28 in the requests. A pair is a
+ * shape and a node, its number is shape * nodes + node, and the pair count is shapes * nodes, at most 4,096. A value is 0 violated,
  * 1 undetermined or 2 valid. A level is two bytes, low byte first.
+ *
+ * Command 00 with a profile may stand once, before all others, and says how many nodes and shapes a case may have. Without it the profile
+ * is 0. All other limits are the same: 1,024 edges, 16 paths, 256 targets, parts 8 deep.
+ *
+ *   profile  nodes  shapes, written and fresh
+ *   0        128    32
+ *   1        256    16
+ *   2        512    8
+ *
+ * A case that begins with 00 00 is answered as the same without these two bytes, but that offsets are two more.
  *
  * Every answer but an advance's starts with a refusal number, 0 for none, and its place. A refused call writes nothing, and every count of
  * its answer, and a reply, is 0 (the code of the old check is no count: it is always 1). Otherwise the leading entries of the tables are
@@ -37,13 +47,15 @@
  *   16      the strata table is shorter than the number of shapes        the length needed
  *   17      a shape depends on its own denial                            the lowest such shape
  *   18      a part of a command 28 is more than 8 deep                   the offset of the 28
- *   19      more than 32 shapes, written and fresh                       the command's offset
+ *   19      more shapes, written and fresh, than the profile has         the command's offset
  *   20      an edge to park is none that an earlier command 02 laid      the command's offset
  *   21      the pair asked for is not below the pair count               the pair
+ *   22      unknown profile                                              the command's offset
  *
- * Reading's refusals are 1 to 9 and 18 to 20. Command 03 parks an edge for good: it gives no fillers, and a later 02 does not bring it back.
- * Both commands stay on record, and each counts as an edge, in the limit too. Command 28 holds a whole rule; what it writes inside itself
- * become fresh shapes, numbered after all written ones. Pairs, tables and the count of shapes are those of all shapes, fresh ones too.
+ * Reading's refusals are 1 to 9, 18 to 20 and 22. Command 03 parks an edge for good: it gives no fillers, and a later 02 does not bring it
+ * back. Both commands stay on record, and each counts as an edge, in the limit too. Command 28 holds a whole rule; what it writes inside
+ * itself become fresh shapes, numbered after all written ones. Pairs, tables and the count of shapes are those of all shapes, fresh ones
+ * too.
  */
 #ifndef JUDGE_H
 #define JUDGE_H
@@ -54,6 +66,13 @@
 #ifdef __cplusplus
 extern "C" {
 #endif
+
+/* More stack, in bytes, than a call needs, whatever its input, the unfinished solves that it is handed and answers by value included. Calls
+ * that work on fillers reserve what the widest case needs; a small one clears a sixteenth of it. */
+#define JUDGE_READ_STACK (96 * 1024)     /* judge_read, judge_rank */
+#define JUDGE_ASK_STACK (160 * 1024)     /* judge_begin, judge_ask */
+#define JUDGE_SOLVE_STACK (640 * 1024)   /* judge_solve, judge_check, judge_check_supported, judge_node_totals, solve, check */
+#define JUDGE_ADVANCE_STACK (704 * 1024) /* judge_advance */
 
 /* The tables that are long enough for every case. */
 #define JUDGE_MOST_PAIRS 4096

@@ -6,7 +6,7 @@
 
 #include "judge.h"
 
-#define MOST_CASES 80
+#define MOST_CASES 120
 /* more than a solve copies of its case */
 #define MOST_BYTES 8200
 
@@ -33,7 +33,7 @@ static void add_hex(const char *name, const char *text) {
   add(name, bytes, length);
 }
 
-/* ---- A case with every group at its limit */
+/* ---- A case with every group at its limit, and its profile's */
 
 static uint64_t seed = 1;
 
@@ -48,9 +48,25 @@ static size_t full_length;
 /* how many shapes are written; operands and targets name these */
 static unsigned written;
 
+/* the profile, -1 for no 00, and its limits */
+static int profile;
+static unsigned nodes, shapes;
+
+static void under(int number) {
+  profile = number;
+  nodes = 128u << (number > 0 ? number : 0);
+  shapes = 32u >> (number > 0 ? number : 0);
+}
+
 static void put(unsigned byte) { full[full_length++] = (uint8_t)byte; }
 
-static void put_node(unsigned node) { put(node), put(0); }
+static void put_node(unsigned node) { put(node & 255), put(node >> 8); }
+
+static void put_opening(void) {
+  full_length = 0;
+  if (profile >= 0) put(0x00), put((unsigned)profile);
+  put(0x01), put_node(nodes);
+}
 
 static void put_path(unsigned kind, unsigned earlier) {
   put(kind);
@@ -63,7 +79,7 @@ static void put_shape(unsigned kind) {
   put(kind);
   switch (kind) {
     case 0x20: break;
-    case 0x21: put_node(below(128)); break;
+    case 0x21: put_node(below(nodes)); break;
     case 0x24: put(below(written)); break;
     case 0x25: put(below(16)), put(below(16)); break;
     case 0x26: put(below(16)), put(below(written)); break;
@@ -76,7 +92,7 @@ static void put_shape(unsigned kind) {
 static void put_part(unsigned makes) {
   unsigned half = (makes - 1) / 2;
   if (makes == 0) put(0x29), put(below(written));
-  else if (makes == 1) put(0x21), put_node(below(128));
+  else if (makes == 1) put(0x21), put_node(below(nodes));
   else if (makes == 2) put(0x24), put_part(1);
   else if (makes == 3) put(0x2A), put(below(255)), put(below(16)), put_part(1);
   else put(0x22 + below(2)), put_part(half), put_part(makes - 1 - half);
@@ -91,40 +107,67 @@ static void put_ands(unsigned levels, int named) {
 
 /* so many of 1,024 commands lay an edge; the others park one of these */
 static void put_edges(unsigned laid) {
+  size_t first = full_length;
   for (unsigned i = 0; i < 1024; i++) {
-    size_t edge = 3 + 6 * below(laid);
-    if (i < laid) put(0x02), put(below(4)), put_node(below(128)), put_node(below(128));
+    size_t edge = first + 6 * below(laid);
+    if (i < laid) put(0x02), put(below(4)), put_node(below(nodes)), put_node(below(nodes));
     else put(0x03), memcpy(full + full_length, full + edge + 1, 5), full_length += 5;
   }
 }
 
-/* so many edges are laid and so many shapes written; where these are less than 32, the last is a 28 that makes up for them. Of eight others so many are nots, and some more */
+/* so many edges are laid and so many shapes written; where these are less than there can be, the last is a 28 that makes up for them. Of eight others so many are nots, and some more */
 static void make_full(unsigned nots, unsigned count, unsigned laid) {
-  full_length = 0;
   written = count;
-  put(0x01), put_node(128);
+  put_opening();
   put_edges(laid);
   for (unsigned i = 0; i < 16; i++) put_path(i < 2 ? 0x10 + i : 0x10 + below(5), i);
-  for (unsigned i = count < 32; i < count; i++) put_shape(below(8) < nots ? 0x24 : 0x20 + below(8));
-  if (count < 32) put(0x28), put_part(32 - count + 1);
-  for (int i = 0; i < 256; i++) put(0x30), put(below(written)), put_node(below(128));
+  for (unsigned i = count < shapes; i < count; i++) put_shape(below(8) < nots ? 0x24 : 0x20 + below(8));
+  if (count < shapes) put(0x28), put_part(shapes - count + 1);
+  for (int i = 0; i < 256; i++) put(0x30), put(below(written)), put_node(below(nodes));
   put(0xFF);
 }
 
-/* as many fresh shapes, or named ones, as reading can come to see: 32 or 31 shapes, then a 28 with 255 parts */
+/* as many fresh shapes, or named ones, as reading can come to see: all shapes or one less, then a 28 with 255 parts */
 static void make_most_parts(int named) {
-  full_length = 0;
-  written = named ? 32 : 2;
-  put(0x01), put_node(128);
-  if (named) for (unsigned i = 0; i < 31; i++) put(0x22), put(i), put(i + 1);
-  else put(0x28), put(0x24), put_ands(5, 0);
+  written = named ? shapes : 2;
+  put_opening();
+  if (named) for (unsigned i = 0; i + 1 < shapes; i++) put(0x22), put(i), put(i + 1);
+  else put(0x28), put(0x24), put_ands(profile > 0 ? 5 - (unsigned)profile : 5, 0);
   put(0x28), put_ands(8, named);
   put(0xFF);
 }
 
 /* ---- All cases */
 
+/* every group at the limits of a profile that lets in more than 128 nodes: all edges laid, few, and half of the shapes fresh; and faults at the end */
+static void add_full(int number) {
+  under(number);
+  make_full(1, shapes, 1024);
+  add("full limits of a profile", full, full_length);
+  add("full limits of a profile, end missing", full, full_length - 1);
+  add("full limits of a profile, a node cut", full, full_length - 2);
+  full[full_length - 2] = (uint8_t)(nodes / 256);
+  add("full limits of a profile, node not there", full, full_length);
+  make_full(3, shapes, 40);
+  add("full limits of a profile, 984 parks", full, full_length);
+  make_full(1, shapes / 2, 40);
+  add("full limits of a profile, half of the shapes fresh", full, full_length);
+  make_most_parts(0);
+  add("most fresh shapes of a profile", full, full_length);
+  make_most_parts(1);
+  add("most named shapes of a profile", full, full_length);
+}
+
+/* every group but the nodes at the limits of a profile: as many as there are without one */
+static void add_narrow(int number) {
+  under(number);
+  nodes = 128;
+  make_full(2, shapes, 1024);
+  add("128 nodes under a profile", full, full_length);
+}
+
 static void make_cases(void) {
+  under(-1);
   add_hex("ring", "01 04 00, 02 00 01 00 00 00, 02 00 02 00 03 00, 02 00 03 00 02 00, 02 01 00 00 00 00, 10 00, 10 01, 20, 27 01 01 00, 27 01 00 03, 23 01 02, 24 03, 30 03 01 00, 30 03 02 00, FF");
   add_hex("clash", "01 01 00, 02 00 00 00 00 00, 24 01, 24 00, FF");
   add_hex("not itself", "01 01 00, 02 00 00 00 00 00, 24 00, 30 00 00 00, FF");
@@ -167,7 +210,7 @@ static void make_cases(void) {
   full[full_length - 2] = 1;
   add("full, node not there", full, full_length);
   add_hex("empty", "");
-  add_hex("1", "00");
+  add_hex("1", "04");
   add_hex("1 later", "01 00 00 29 00");
   add_hex("2", "FF");
   add_hex("2 later", "01 00 00 20 10 00 FF");
@@ -206,6 +249,23 @@ static void make_cases(void) {
   add_hex("5 in a park", "01 02 00, 02 00 00 00 01 00, 03 00 00 00 02 00, FF");
   add_hex("20", "01 02 00, 02 00 00 00 01 00, 03 00 01 00 00 00, FF");
   add_hex("20, no edges", "01 02 00, 03 00 00 00 01 00");
+  add_narrow(0), add_narrow(2);
+  add_full(1), add_full(2);
+  add_hex("ring under profile 2", "00 02, 01 04 00, 02 00 01 00 00 00, 02 00 02 00 03 00, 02 00 03 00 02 00, 02 01 00 00 00 00, 10 00, 10 01, 20, 27 01 01 00, 27 01 00 03, 23 01 02, 24 03, 30 03 01 00, 30 03 02 00, FF");
+  add_hex("no nodes under profile 1", "00 01, 01 00 00, FF");
+  add_hex("512 nodes, no shapes", "00 02, 01 00 02, 02 00 FF 01 00 00, 10 00, 14 00, FF");
+  add_hex("512 nodes, a star", "00 02, 01 00 02, 02 00 FF 01 00 00, 10 00, 14 00, 21 FF 01, 27 01 01 00, 30 01 FF 01, FF");
+  add_hex("00 alone", "00");
+  add_hex("00 00", "00 00");
+  add_hex("01 cut under a profile", "00 02, 01 00");
+  add_hex("22", "00 03");
+  add_hex("a second 00", "00 01, 00 01");
+  add_hex("a second 00, cut", "00 01, 00");
+  add_hex("00 after 01", "01 01 00, 00 02, FF");
+  add_hex("257 nodes under profile 1", "00 01, 01 01 01");
+  add_hex("513 nodes under profile 2", "00 02, 01 01 02");
+  add_hex("9 shapes under profile 2", "00 02, 01 01 00, 20, 20, 20, 20, 20, 20, 20, 20, 20, FF");
+  add_hex("19 under profile 2", "00 02, 01 01 00, 20, 20, 20, 20, 20, 20, 20, 28 24 20, FF");
 }
 
 /* ---- What is run, and what went wrong */

@@ -47,10 +47,10 @@ impl Table {
 // ---- Calls
 
 /// One call with its tables as they are before it.
-struct Call<'a> {
-    name: &'static str,
-    case: &'a [u8],
-    tables: Vec<(&'static str, &'a [u8])>,
+pub struct Call<'a> {
+    pub name: &'static str,
+    pub case: &'a [u8],
+    pub tables: Vec<(&'static str, &'a [u8])>,
 }
 
 impl<'a> Call<'a> {
@@ -68,7 +68,7 @@ impl<'a> Call<'a> {
         text
     }
 
-    fn fail(&self, difference: String) -> ! {
+    pub fn fail(&self, difference: String) -> ! {
         let stored = watch::stored();
         std::fs::write(&stored, self.text(&difference)).ok();
         println!("differential: {}: {difference}", self.name);

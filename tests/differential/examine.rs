@@ -8,13 +8,13 @@ use crate::reference::{Case, Judge};
 use crate::tally::Tally;
 use crate::totals::examine_some_nodes;
 
-fn filler(r: &mut Random, length: usize) -> Vec<u8> {
+pub fn filler(r: &mut Random, length: usize) -> Vec<u8> {
     let (start, step) = (r.byte(), r.byte());
     (0..length).map(|i| start.wrapping_add(step.wrapping_mul(i as u8))).collect()
 }
 
 /// A length about the one needed: short, exact or longer.
-fn about(r: &mut Random, needed: usize) -> usize {
+pub fn about(r: &mut Random, needed: usize) -> usize {
     match r.below(8) {
         0 | 1 => needed.saturating_sub(1),
         2 => r.range(0, needed),

@@ -1,11 +1,14 @@
-//! Random and built cases, whole and damaged. A case is kept as a list of commands until its bytes are wanted, so that damage can be done to commands as well as to bytes. Those with parts and those with parked edges have files of their own.
+//! Random and built cases, whole and damaged. A case is kept as a list of commands until its bytes are wanted, so that damage can be done to commands as well as to bytes. Those with parts, with parked edges and with a profile have files of their own.
 
 #[path = "nested.rs"]
 mod nested;
 #[path = "parked.rs"]
 mod parked;
+#[path = "profiled.rs"]
+mod profiled;
 pub use nested::*;
 pub use parked::*;
+pub use profiled::*;
 
 /// SplitMix64: the same numbers from the same seed on every machine.
 pub struct Random(pub u64);
@@ -110,6 +113,8 @@ pub enum Layout {
 
 #[derive(Clone, Copy)]
 pub struct Size {
+    /// that of the 00, if there is one
+    pub profile: Option<usize>,
     pub nodes: usize,
     /// 02s and 03s together
     pub edges: usize,
@@ -141,6 +146,7 @@ fn random_layout(r: &mut Random) -> Layout {
 
 pub fn small(r: &mut Random) -> Size {
     Size {
+        profile: None,
         nodes: r.range(0, 5),
         edges: r.range(0, 9),
         parks: 0,
@@ -171,6 +177,7 @@ pub fn vouching(r: &mut Random) -> Size {
 
 pub fn medium(r: &mut Random) -> Size {
     Size {
+        profile: None,
         nodes: r.range(3, 24),
         edges: r.range(3, 80),
         parks: 0,
@@ -190,6 +197,7 @@ pub fn medium(r: &mut Random) -> Size {
 /// Node counts about the width of a machine word and the limit, all else up to the limits.
 pub fn large(r: &mut Random) -> Size {
     Size {
+        profile: None,
         nodes: r.pick(&[31, 32, 33, 63, 64, 65, 96, 127, 128, 128]),
         edges: r.pick(&[60, 128, 300, 700, 1023, 1024]),
         parks: 0,
@@ -211,8 +219,12 @@ pub fn full(r: &mut Random) -> Size {
 }
 
 pub fn random_case(r: &mut Random, size: &Size) -> Commands {
-    let mut commands = vec![nodes(size.nodes)];
+    let mut commands = opening(size.profile, size.nodes);
+    let before_edges = commands.len();
     let n = size.nodes;
+    // on a wide case the edges may begin anywhere, and go round
+    let first = if n > 128 { r.below(n) } else { 0 };
+    let shifted = |a: usize| (a.min(n - 1) + first) % n;
     if n > 0 {
         for i in 0..size.edges {
             let p = r.below(size.properties);
@@ -229,13 +241,13 @@ pub fn random_case(r: &mut Random, size: &Size) -> Commands {
             let p = if i < n && matches!(size.layout, Layout::Chain | Layout::Ring) { 0 } else { p };
             // a repeat now and then
             if size.parks > 0 && i > 0 && r.below(16) < size.parks {
-                let command = random_park(r, &commands[1..]);
+                let command = random_park(r, &commands[before_edges..]);
                 commands.push(command);
-            } else if commands.len() > 1 && r.one_in(12) {
-                let again = commands[r.range(1, commands.len() - 1)].clone();
+            } else if commands.len() > before_edges && r.one_in(12) {
+                let again = commands[r.range(before_edges, commands.len() - 1)].clone();
                 commands.push(again);
             } else {
-                commands.push(edge(p, a.min(n - 1), b.min(n - 1)));
+                commands.push(edge(p, shifted(a), shifted(b)));
             }
         }
     }
@@ -281,7 +293,7 @@ fn operand(r: &mut Random, size: &Size, s: usize, stratum: &[usize], nots: usize
 fn random_least(r: &mut Random, n: usize) -> u8 {
     (match r.below(10) {
         0 => r.range(1, 255),
-        1 => r.range(1, n.max(1)),
+        1 => r.range(1, n.clamp(1, 255)),
         2 | 3 => r.range(2, 4),
         4 => 2,
         _ => 1,
@@ -322,7 +334,7 @@ fn random_shape(r: &mut Random, size: &Size, s: usize, stratum: &[usize]) -> Vec
 
 /// A chain of n nodes, followed by path 0; path 1 is its closing edge, and path 2 goes round the ring that both make.
 fn ring(n: usize) -> Commands {
-    let mut commands = vec![nodes(n)];
+    let mut commands = opening_for(n);
     for a in 1..n {
         commands.push(edge(0, a - 1, a));
     }
@@ -333,7 +345,7 @@ fn ring(n: usize) -> Commands {
 
 fn with_targets(mut commands: Commands, n: usize, shapes: usize) -> Commands {
     for i in 0..256 {
-        commands.push(target(i % shapes, (i / 2) % n));
+        commands.push(target(i % shapes, i * n / 256));
     }
     commands.push(vec![0xFF]);
     commands
@@ -428,18 +440,18 @@ pub fn open_after_denials(n: usize, open: usize, denial: usize) -> Commands {
 
 /// Every node reaches nearly every other by a star; counts and alls range over all of them.
 pub fn dense_star(r: &mut Random, n: usize) -> Commands {
-    let mut commands = vec![nodes(n)];
+    let mut commands = opening_for(n);
     for i in 0..1024 {
         let (a, b) = if i < n { (i, (i + 1) % n) } else { (r.below(n), r.below(n)) };
         commands.push(edge(i % 3, a, b));
     }
     commands.extend([vec![0x10, 0], vec![0x10, 1], vec![0x10, 2], vec![0x12, 0, 1], vec![0x12, 3, 2], vec![0x14, 4], vec![0x14, 3], vec![0x13, 4, 4]]);
-    let shapes = 32;
+    let shapes = most_shapes(n);
     for s in 0..shapes {
         let t = r.below(shapes) as u8;
         let path = r.range(4, 7) as u8;
         commands.push(match s % 6 {
-            0 => vec![0x27, r.range(1, n) as u8, path, t],
+            0 => vec![0x27, r.range(1, n.min(255)) as u8, path, t],
             1 => vec![0x26, path, t],
             2 => vec![0x23, t, r.below(shapes) as u8],
             3 => if s < 6 { node_shape(r.below(n)) } else { vec![0x27, 1, path, t] },
@@ -460,7 +472,7 @@ pub enum Feeder {
 
 /// A long feeder and a star path over it, which is the last of these paths; path 0 leads on, path 1 back.
 pub fn feeder(n: usize, feeder: Feeder, paths: &[&[u8]]) -> Commands {
-    let mut commands = vec![nodes(n)];
+    let mut commands = opening_for(n);
     for a in 1..n {
         commands.push(edge(0, if let Feeder::Tree = feeder { a / 2 } else { a - 1 }, a));
     }
@@ -472,7 +484,7 @@ pub fn feeder(n: usize, feeder: Feeder, paths: &[&[u8]]) -> Commands {
 
 /// As many parks as edges, up to the limit, and all of the edge that was laid last: what looks for it goes past every other.
 pub fn parked_last(n: usize) -> Commands {
-    let mut commands = vec![nodes(n)];
+    let mut commands = opening_for(n);
     commands.extend((0..512).map(|i| edge(i / n, i % n, (i + 1) % n)));
     let last = (511 / n, 511 % n, 512 % n);
     commands.extend(vec![park(last.0, last.1, last.2); 512]);
@@ -499,7 +511,8 @@ pub const STAR_OF_SEQUENCE: &[&[u8]] = &[&[0x13, 0, 0], &[0x13, 2, 1], &[0x12, 2
 
 /// Sixteen paths, each of its forerunner twice: without a table of rows this takes time without end.
 pub fn deep_paths(r: &mut Random, n: usize, kinds: &[u8]) -> Commands {
-    let mut commands = vec![nodes(n)];
+    let mut commands = opening_for(n);
+    let shapes = most_shapes(n);
     for i in 0..1024 {
         commands.push(if i < n { edge(0, i, (i + 1) % n) } else { edge(1, r.below(n), r.below(n)) });
     }
@@ -509,7 +522,7 @@ pub fn deep_paths(r: &mut Random, n: usize, kinds: &[u8]) -> Commands {
         commands.push(if kind == 0x14 { vec![kind, i - 1] } else { vec![kind, i - 1, i - 1] });
     }
     commands.extend([vec![0x20], node_shape(0), vec![0x25, 15, 14], vec![0x25, 15, 0], vec![0x26, 15, 1]]);
-    for s in 5..32u8 {
+    for s in 5..shapes as u8 {
         let path = r.below(16) as u8;
         commands.push(match s % 4 {
             0 => vec![0x27, 1, path, s - 1],
@@ -518,7 +531,7 @@ pub fn deep_paths(r: &mut Random, n: usize, kinds: &[u8]) -> Commands {
             _ => vec![0x23, s - 1, s - 4],
         });
     }
-    with_targets(commands, n, 32)
+    with_targets(commands, n, shapes)
 }
 
 /// Pairs of shapes that deny each other, at every node: many stable assignments.
@@ -535,7 +548,7 @@ pub fn clashes(r: &mut Random, n: usize, pairs: usize) -> Commands {
 
 // ---- Damage
 
-const KNOWN: [u8; 19] = [0x01, 0x02, 0x03, 0x10, 0x11, 0x12, 0x13, 0x14, 0x20, 0x21, 0x22, 0x23, 0x24, 0x25, 0x26, 0x27, 0x28, 0x30, 0xFF];
+const KNOWN: [u8; 20] = [0x00, 0x01, 0x02, 0x03, 0x10, 0x11, 0x12, 0x13, 0x14, 0x20, 0x21, 0x22, 0x23, 0x24, 0x25, 0x26, 0x27, 0x28, 0x30, 0xFF];
 
 fn count(commands: &Commands, from: u8, to: u8) -> usize {
     commands.iter().filter(|c| (from..=to).contains(&c[0])).count()
@@ -552,7 +565,7 @@ fn positions(commands: &Commands, of: &[u8]) -> Vec<usize> {
     (0..commands.len()).filter(|i| of.contains(&commands[*i][0]) && whole(&commands[*i])).collect()
 }
 
-/// Damages a sound case so that, alone, it leads to the refusal asked for (1 to 9, or 20), where the case has a command that can be damaged so.
+/// Damages a sound case so that, alone, it leads to the refusal asked for (1 to 9, 20 or 22), where the case has a command that can be damaged so.
 pub fn damage(r: &mut Random, commands: &mut Commands, refusal: usize) {
     damage_one(r, commands, refusal);
     // a command cut to nothing is none
@@ -560,12 +573,13 @@ pub fn damage(r: &mut Random, commands: &mut Commands, refusal: usize) {
 }
 
 fn damage_one(r: &mut Random, commands: &mut Commands, refusal: usize) {
-    let n = commands.first().map_or(0, |c| if c.len() == 3 { c[1] as usize + 256 * c[2] as usize } else { 0 });
+    let n = node_count(commands);
+    let (most_nodes, most_shapes) = limits_of(commands);
     let some = |r: &mut Random, places: Vec<usize>| if places.is_empty() { None } else { Some(r.pick(&places)) };
     match refusal {
         1 => {
             let byte = loop {
-                let byte = if r.one_in(2) { r.pick(&[0x00, 0x04, 0x0F, 0x15, 0x1F, 0x29, 0x2A, 0x2B, 0x2F, 0x31, 0xFE]) } else { r.byte() };
+                let byte = if r.one_in(2) { r.pick(&[0x04, 0x0F, 0x15, 0x1F, 0x29, 0x2A, 0x2B, 0x2F, 0x31, 0xFE]) } else { r.byte() };
                 if !KNOWN.contains(&byte) {
                     break byte;
                 }
@@ -573,11 +587,12 @@ fn damage_one(r: &mut Random, commands: &mut Commands, refusal: usize) {
             let at = r.range(0, commands.len() - 1);
             commands.insert(at, vec![byte]);
         }
-        2 => match r.below(5) {
+        2 => match r.below(6) {
             0 => { let at = r.range(1, commands.len()); commands.insert(at, nodes(n)); }
             1 => { let at = r.range(1, commands.len()); commands.insert(at, vec![0x01]); }
             2 => { commands.remove(0); }
             3 => { let (i, j) = (r.below(commands.len()), r.below(commands.len())); commands.swap(i, j); }
+            4 => { let at = r.range(1, commands.len()); commands.insert(at, vec![0x00, r.below(4) as u8]); }
             _ => { let from = r.below(commands.len()); let c = commands[from].clone(); let at = r.range(0, commands.len() - 1); commands.insert(at, c); }
         },
         3 => match r.below(3) {
@@ -593,10 +608,15 @@ fn damage_one(r: &mut Random, commands: &mut Commands, refusal: usize) {
         },
         4 => {
             let (byte, limit, command) = match r.below(5) {
-                0 => { let n = r.pick(&[129, 130, 255, 256, 257, 384, 0x8000, 0xFFFF]); commands[0] = nodes(n); return; }
+                0 => {
+                    let n = r.pick(&[most_nodes + 1, most_nodes + 2, 255, 256, 257, 384, 512, 513, 0x8000, 0xFFFF]).max(most_nodes + 1);
+                    let at = nodes_at(commands).min(commands.len() - 1);
+                    commands[at] = nodes(n);
+                    return;
+                }
                 1 => (0x03, 1024, edge(0, 0, 0)),
                 2 => (0x14, 16, vec![0x10, 0]),
-                3 => (0x28, 32, vec![0x20]),
+                3 => (0x28, most_shapes, vec![0x20]),
                 _ => (0x30, 256, target(0, 0)),
             };
             if n == 0 && matches!(byte, 0x03 | 0x30) {
@@ -650,6 +670,7 @@ fn damage_one(r: &mut Random, commands: &mut Commands, refusal: usize) {
             commands.push(tail);
         }
         20 => park_unknown(r, commands),
+        22 => unknown_profile(r, commands),
         _ => if let Some(i) = some(r, positions(commands, &[0x22, 0x23, 0x24, 0x26, 0x27, 0x30])) {
             let shapes = count(commands, 0x20, 0x28);
             let c = &mut commands[i];

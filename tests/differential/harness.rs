@@ -1,5 +1,6 @@
 //! The library against the reference: number, place, counts and every byte of every table, on the samples of the documents, on built and damaged cases, and on random ones.
 
+mod alike;
 mod calls;
 mod compare;
 mod examine;
@@ -10,6 +11,7 @@ mod old_code;
 mod park_kinds;
 mod part_kinds;
 mod plan;
+mod profile_kinds;
 mod proposals;
 #[allow(dead_code)]
 mod reference;

@@ -6,7 +6,7 @@ use crate::generator::*;
 use crate::plan::{Kind, Plan};
 use crate::reference::Judge;
 use crate::tally::Tally;
-use crate::{old_code, park_kinds, part_kinds, samples, totals, unfinished_kinds};
+use crate::{old_code, park_kinds, part_kinds, profile_kinds, samples, totals, unfinished_kinds};
 
 pub type Cases = Vec<Vec<u8>>;
 
@@ -50,7 +50,7 @@ pub fn kinds(plan: &Plan) -> Vec<Kind<Tally>> {
         list(plan, "feeders", 3, |_| feeders()),
         list(plan, "paths of paths", 2, paths_of_paths),
         list(plan, "clashes", 20, |r| [(1, 1), (3, 2), (64, 3), (128, 15)].map(|(n, pairs)| bytes(&clashes(r, n, pairs))).to_vec()),
-        full_cut(plan, "full cut"),
+        full_cut(plan, "full cut", full),
     ];
     // the slowest case there is, a minute or two on the reference, for those who have the time
     if plan.is_long() {
@@ -64,11 +64,7 @@ pub fn kinds(plan: &Plan) -> Vec<Kind<Tally>> {
             let refusals: Vec<usize> = (0..r.pick(&[1, 1, 1, 2, 3])).map(|_| r.range(1, 9)).collect();
             damaged(r, small_or_medium, &refusals)
         }),
-        draw("bytes changed", 16000, 1, |r| {
-            let mut case = drawn(r, small_or_medium);
-            mutate(r, &mut case);
-            case
-        }),
+        draw("bytes changed", 16000, 1, |r| changed(r, small_or_medium)),
         draw("small", 30000, 12, |r| drawn(r, small)),
         draw("medium", 12000, 8, |r| drawn(r, medium)),
         draw("large", 160, 6, |r| drawn(r, full_or_large)),
@@ -84,6 +80,7 @@ pub fn kinds(plan: &Plan) -> Vec<Kind<Tally>> {
     kinds.extend(totals::kinds(plan));
     kinds.extend(old_code::kinds());
     kinds.extend(unfinished_kinds::kinds(plan));
+    kinds.extend(profile_kinds::kinds(plan));
     kinds
 }
 
@@ -182,8 +179,8 @@ fn least_numbers() -> Cases {
 }
 
 /// All groups at their limits, cut at every length, where the reading alone counts; and whole.
-fn full_cut(plan: &Plan, name: &str) -> Kind<Tally> {
-    let whole = drawn(&mut plan.random(name, 0), full);
+pub fn full_cut(plan: &Plan, name: &str, size: fn(&mut Random) -> Size) -> Kind<Tally> {
+    let whole = drawn(&mut plan.random(name, 0), size);
     Kind::listed(name, whole.len() + 1, move |tally, r, number| {
         if number == 0 {
             return examine(tally, r, &whole, 4);
@@ -234,6 +231,13 @@ pub fn drawn(r: &mut Random, size: fn(&mut Random) -> Size) -> Vec<u8> {
     bytes(&random_case(r, &size))
 }
 
+/// A case of some size with bytes changed.
+pub fn changed(r: &mut Random, size: fn(&mut Random) -> Size) -> Vec<u8> {
+    let mut case = drawn(r, size);
+    mutate(r, &mut case);
+    case
+}
+
 fn small_or_medium(r: &mut Random) -> Size {
     if r.one_in(3) { medium(r) } else { small(r) }
 }
@@ -244,6 +248,11 @@ fn full_or_large(r: &mut Random) -> Size {
 
 /// A case of some size, damaged for one refusal after another.
 pub fn damaged(r: &mut Random, size: fn(&mut Random) -> Size, refusals: &[usize]) -> Vec<u8> {
+    damaged_by(r, size, refusals, damage)
+}
+
+/// The same, by damage of its own.
+pub fn damaged_by(r: &mut Random, size: fn(&mut Random) -> Size, refusals: &[usize], damage: fn(&mut Random, &mut Commands, usize)) -> Vec<u8> {
     let size = size(r);
     let mut commands = random_case(r, &size);
     for refusal in refusals {

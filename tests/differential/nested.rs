@@ -124,7 +124,7 @@ impl Nested<'_> {
     fn operands(&self, r: &mut Random, byte: u8, out: &mut Vec<u8>) {
         let (n, paths) = (self.size.nodes, self.size.paths);
         match byte {
-            0x21 => out.extend([r.below(n) as u8, 0]),
+            0x21 => out.extend(&node_shape(r.below(n))[1..]),
             0x25 => out.extend([r.below(paths) as u8, r.below(paths) as u8]),
             0x26 => out.push(r.below(paths) as u8),
             0x27 => out.extend([random_least(r, n), r.below(paths) as u8]),
@@ -215,16 +215,12 @@ pub fn damage_part(r: &mut Random, commands: &mut Commands, refusal: usize) {
                 1 => { commands.truncate(i + 1); let left = r.range(1, commands[i].len()); commands[i].truncate(left); }
                 _ => {}
             }
-            commands.splice(i..i, vec![vec![0x20]; 32usize.saturating_sub(before)]);
+            commands.splice(i..i, vec![vec![0x20]; limits_of(commands).1.saturating_sub(before)]);
         }
         18 => { let wrong = wrapped(r, commands, 9 - depth.min(8)); commands[i].splice(at..at, wrong); }
         19 => too_many(r, commands, i, at, depth),
         _ => { let wrong = wrong_part(r, commands, refusal); replace(&mut commands[i], at, wrong); }
     }
-}
-
-fn node_count(commands: &Commands) -> usize {
-    commands[0].get(1).map_or(0, |low| *low as usize)
 }
 
 /// A part with a wrong operand: 5, 6, 7 or 9.
@@ -266,11 +262,16 @@ fn wrapped(r: &mut Random, commands: &Commands, deeper: usize) -> Vec<u8> {
     bytes
 }
 
+/// Written and fresh shapes.
+pub(super) fn shape_count(commands: &Commands) -> usize {
+    count(commands, 0x20, 0x28) + commands.iter().filter(|c| c[0] == 0x28).map(|c| fresh_of(c)).sum::<usize>()
+}
+
 /// One shape too many, at a shape command of its own; or far too many, in the part.
 fn too_many(r: &mut Random, commands: &mut Commands, i: usize, at: usize, depth: usize) {
-    let shapes = count(commands, 0x20, 0x28) + commands.iter().filter(|c| c[0] == 0x28).map(|c| fresh_of(c)).sum::<usize>();
-    if shapes < 33 && r.one_in(2) {
-        commands.splice(i..i, vec![vec![0x20]; 33 - shapes]);
+    let (shapes, most) = (shape_count(commands), limits_of(commands).1);
+    if shapes <= most && r.one_in(2) {
+        commands.splice(i..i, vec![vec![0x20]; most + 1 - shapes]);
     } else {
         let bottom: &[u8] = if r.one_in(2) { &[0x20] } else { &[0x29, 0] };
         replace(&mut commands[i], at, full_tree(9 - depth.min(8), bottom));

@@ -2,7 +2,7 @@
 
 use crate::compare::*;
 use crate::generator::*;
-use crate::kinds::drawn;
+use crate::kinds::{drawn, each_drawn};
 use crate::plan::Kind;
 use crate::proposals::*;
 use crate::reference::{Case, Judge};
@@ -61,18 +61,9 @@ pub fn kinds() -> Vec<Kind<Tally>> {
         }),
         Kind::drawn("old code, every assignment", 150, |tally, r, _| every_assignment(tally, &drawn(r, tiny))),
         Kind::drawn("old code, every assignment, nested", 50, |tally, r, _| every_assignment(tally, &drawn(r, tiny_nested))),
-        Kind::drawn("old code, supported", 4000, |tally, r, _| {
-            let case = drawn(r, vouching);
-            supported_and_spoilt(tally, r, &case);
-        }),
-        Kind::drawn("old code, medium", 300, |tally, r, _| {
-            let case = drawn(r, medium);
-            supported_and_spoilt(tally, r, &case);
-        }),
-        Kind::drawn("old code, large", 10, |tally, r, _| {
-            let case = drawn(r, large);
-            supported_and_spoilt(tally, r, &case);
-        }),
+        each_drawn("old code, supported", 4000, |r| drawn(r, vouching), supported_and_spoilt),
+        each_drawn("old code, medium", 300, |r| drawn(r, medium), supported_and_spoilt),
+        each_drawn("old code, large", 10, |r| drawn(r, large), supported_and_spoilt),
     ]
 }
 
@@ -86,7 +77,7 @@ fn every_assignment(tally: &mut Tally, case: &[u8]) {
 }
 
 /// Assignments that are supported or nearly so, and with bytes that are no values, of which one comes last.
-fn supported_and_spoilt(tally: &mut Tally, r: &mut Random, case: &[u8]) {
+pub fn supported_and_spoilt(tally: &mut Tally, r: &mut Random, case: &[u8]) {
     tally.cases += 1;
     let judge = Judge::new(case);
     let read = judge.read.as_ref().unwrap();

@@ -23,11 +23,7 @@ pub fn kinds(plan: &Plan) -> Vec<Kind<Tally>> {
             let refusals: Vec<usize> = (0..r.pick(&[1, 1, 2, 3])).map(|_| r.pick(&EDGE_REFUSALS)).collect();
             damaged(r, small_parked, &refusals)
         }),
-        draw("parked bytes changed", 6000, 1, |r| {
-            let mut case = drawn(r, small_parked);
-            mutate(r, &mut case);
-            case
-        }),
+        draw("parked bytes changed", 6000, 1, |r| changed(r, small_parked)),
         draw("parked small", 8000, 3, |r| drawn(r, small_parked)),
         draw("parked and nested", 1500, 2, |r| drawn(r, nested_parked)),
         draw("parked medium", 1000, 3, |r| drawn(r, medium_parked)),

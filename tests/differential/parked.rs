@@ -44,23 +44,24 @@ pub(super) fn random_park(r: &mut Random, edges: &[Vec<u8>]) -> Vec<u8> {
 
 // ---- Cases with less of their edges
 
-/// The commands among the edges of a case that reads, and where they end.
-fn edges_of(case: &[u8]) -> (Vec<&[u8]>, usize) {
-    let edges: Vec<&[u8]> = case[3..].chunks(6).take_while(|command| matches!(command[0], 0x02 | 0x03)).collect();
-    let end = 3 + 6 * edges.len();
-    (edges, end)
+/// The commands among the edges of a case that reads, and where they begin and end.
+fn edges_of(case: &[u8]) -> (Vec<&[u8]>, usize, usize) {
+    let start = if case[0] == 0x00 { 5 } else { 3 };
+    let edges: Vec<&[u8]> = case[start..].chunks(6).take_while(|command| matches!(command[0], 0x02 | 0x03)).collect();
+    let end = start + 6 * edges.len();
+    (edges, start, end)
 }
 
 /// A case that reads, with those of its edges' commands that are kept.
 fn keeping(case: &[u8], kept: impl Fn(&[u8]) -> bool) -> Vec<u8> {
-    let (edges, end) = edges_of(case);
+    let (edges, start, end) = edges_of(case);
     let edges: Vec<&[u8]> = edges.into_iter().filter(|edge| kept(edge)).collect();
-    [&case[..3], &edges.concat(), &case[end..]].concat()
+    [&case[..start], &edges.concat(), &case[end..]].concat()
 }
 
 /// Without its parked edges and all that names them.
 pub fn without_parked(case: &[u8]) -> Vec<u8> {
-    let (edges, _) = edges_of(case);
+    let (edges, ..) = edges_of(case);
     keeping(case, |edge| !edges.contains(&&with_byte(0x03, edge)[..]))
 }
 
@@ -86,7 +87,7 @@ pub(super) fn park_unknown(r: &mut Random, commands: &mut Commands) {
         // before its edge
         0 => {
             let first = commands.iter().position(|command| *command == edge).unwrap();
-            let at = r.range(1, first.max(1));
+            let at = r.range(nodes_at(commands) + 1, first.max(nodes_at(commands) + 1));
             commands.insert(at, with_byte(0x03, &edge));
         }
         // with its edge gone

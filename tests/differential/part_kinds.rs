@@ -17,8 +17,8 @@ pub fn kinds(plan: &Plan) -> Vec<Kind<Tally>> {
         list(plan, "nots of nots", 20, |_| nots_of_nots()),
         list(plan, "numbers in parts", 2, |_| numbers()),
         list(plan, "depths", 1, |_| depths()),
-        list(plan, "limit of shapes", 1, |_| limit_of_shapes()),
-        list(plan, "limit of shapes and a fault", 1, |_| limit_and_fault()),
+        list(plan, "limit of shapes", 1, |_| limit_of_shapes(32)),
+        list(plan, "limit of shapes and a fault", 1, |_| limit_and_fault(32)),
         list(plan, "faults by depth", 1, |_| faults_by_depth()),
         list(plan, "faults by pairs", 1, |_| faults_by_pairs()),
         list(plan, "names of shapes", 1, |_| names_of_shapes()),
@@ -38,11 +38,7 @@ pub fn kinds(plan: &Plan) -> Vec<Kind<Tally>> {
             mutate_part(r, &mut commands);
             bytes(&commands)
         }),
-        draw("nested bytes changed", 10000, 1, |r| {
-            let mut case = drawn(r, small_nested);
-            mutate(r, &mut case);
-            case
-        }),
+        draw("nested bytes changed", 10000, 1, |r| changed(r, small_nested)),
         draw("nested small", 24000, 3, |r| drawn(r, small_nested)),
         draw("nested over", 6000, 1, |r| drawn(r, over_nested)),
         draw("nested medium", 1500, 3, |r| drawn(r, medium_nested)),
@@ -170,11 +166,11 @@ fn making(shapes: usize) -> Vec<u8> {
     }
 }
 
-/// Written and fresh shapes, 31 to 34 in all, the 28 first, last or between; then the 33rd written shape, which is 4 whatever it holds.
-fn limit_of_shapes() -> Cases {
+/// Written and fresh shapes, one below the most to two above it, the 28 first, last or between; then a written shape above the most, which is 4 whatever it holds.
+pub fn limit_of_shapes(most: usize) -> Cases {
     let mut cases = Vec::new();
-    for shapes in 31..=34usize {
-        for written in [1, 2, 3, 16, 30, 31, 32] {
+    for shapes in most - 1..=most + 2 {
+        for written in [1, 2, 3, most / 2, most - 2, most - 1, most] {
             let Some(fresh) = shapes.checked_sub(written) else { continue };
             for before in [0, written / 2, written - 1] {
                 for part in parts_making(fresh) {
@@ -187,7 +183,7 @@ fn limit_of_shapes() -> Cases {
     }
     for last in ["", "20", "24", "28", "FF", "21 09 00", "26 09", "27 00 00", "2A FF 00", "24 24 24 24 24 24 24 24", "29 00", "29 20", "29 FF"] {
         for whole in [false, true] {
-            let mut case = framed([vec![vec![0x20]; 32], vec![nested(&samples::hex(last))]].concat());
+            let mut case = framed([vec![vec![0x20]; most], vec![nested(&samples::hex(last))]].concat());
             case.truncate(case.len() - if whole { 0 } else { 5 });
             cases.push(case);
         }
@@ -207,26 +203,26 @@ fn parts_making(fresh: usize) -> Cases {
     parts
 }
 
-/// A fault in a part before or behind the 33rd shape of its 28, in the next command, and in a shape command that makes the 33rd shape.
-fn limit_and_fault() -> Cases {
+/// A fault in a part before or behind the first shape of its 28 above the most, in the next command, and in a shape command that makes that shape.
+pub fn limit_and_fault(most: usize) -> Cases {
     let mut cases = Vec::new();
     for wrong in faults() {
-        let many = making(33);
+        let many = making(most + 1);
         cases.push(framed(vec![nested(&[vec![0x22], many.clone(), wrong.clone()].concat())]));
         cases.push(framed(vec![nested(&[vec![0x22], wrong.clone(), many.clone()].concat())]));
         cases.push(framed(vec![vec![0x20], nested(&[vec![0x22, 0x24], many.clone(), wrong.clone()].concat())]));
-        cases.push(framed(vec![nested(&making(32)), nested(&wrong)]));
+        cases.push(framed(vec![nested(&making(most)), nested(&wrong)]));
         cases.push(framed(vec![nested(&many), nested(&wrong)]));
         cases.push(framed(vec![nested(&many), wrong]));
     }
     for command in ["20", "21 01 00", "21 02 00", "22 00 00", "22 00 01", "22 00 09", "24 00", "25 00 01", "25 00 02", "26 00 00", "26 02 00", "27 01 00 00", "27 00 00 00", "27 00 02 00"] {
-        for shapes in [31, 32] {
+        for shapes in [most - 1, most] {
             cases.push(framed(vec![nested(&making(shapes)), samples::hex(command)]));
         }
     }
     // the most parts that a 28 can have, after the most named and the most fresh shapes
-    for before in [vec![vec![0x22, 0, 1]; 31], vec![nested(&making(32))]] {
-        for bottom in [&[0x20][..], &[0x29, 0], &[0x29, 32], &[0x21, 1, 0], &[0x21, 2, 0], &[0x24, 0x20]] {
+    for before in [vec![vec![0x22, 0, 1]; most - 1], vec![nested(&making(most))]] {
+        for bottom in [&[0x20][..], &[0x29, 0], &[0x29, most as u8], &[0x21, 1, 0], &[0x21, 2, 0], &[0x24, 0x20]] {
             for levels in [7, 8, 9] {
                 cases.push(framed([before.clone(), vec![nested(&full_tree(levels, bottom))]].concat()));
             }

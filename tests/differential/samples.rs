@@ -1,4 +1,4 @@
-//! Samples held to the library alone: those of document 01, as document 02 has changed them, and some of rules inside rules, of parked edges, of totals by fitting, of the old code and of unfinished solves, worked out by hand; every expected number is the documents'.
+//! Samples held to the library alone: those of document 01, as document 02 has changed them, and some of rules inside rules, of parked edges, of totals by fitting, of the old code, of unfinished solves and of profiles, worked out by hand; every expected number is the documents'.
 
 use crate::calls::*;
 use crate::generator::{without_parked, without_parks, Random};
@@ -34,6 +34,9 @@ pub fn hex(text: &str) -> Vec<u8> {
 pub fn digits(text: &str) -> Vec<u8> {
     text.chars().filter_map(|c| c.to_digit(10)).map(|d| d as u8).collect()
 }
+
+/// A road of 512 fittings, of which 511 relays to 300 and 300 to the gateway 0. Shapes: top; at least 1 on; linked, the gateway or on to what is linked (fresh: the gateway, on to linked); not linked; at least 3 by the star.
+pub const ROAD: &str = "00 02, 01 00 02, 02 00 FF 01 2C 01, 02 00 2C 01 00 00, 10 00, 14 00, 20, 27 01 00 00, 28 23 21 00 00 27 01 00 29 02, 24 02, 27 03 01 00, 30 02 FF 01, 30 02 FE 01, FF";
 
 /// Levels, each of one digit.
 fn levels(text: &str) -> Vec<usize> {
@@ -81,6 +84,8 @@ pub fn run() -> usize {
     totals(&mut held);
     old_code(&mut held);
     unfinished(&mut held);
+    refused_profiles(&mut held);
+    roads(&mut held);
     held.0
 }
 
@@ -431,4 +436,89 @@ fn unfinished(held: &mut Held) {
     held.same("what a refused beginning holds", refused_one.unfinished.copy(), &NOTHING[..]);
     held.same("a refused beginning and that of what it holds", refused_one.unfinished == judge_begin(&NOTHING).unfinished, true);
     held.same("empty input, begun", judge_begin(&[]).answer, refused(3, 0));
+}
+
+// ---- Long roads (document 02, point 8)
+
+fn refused_profiles(held: &mut Held) {
+    let mut read = |name: &str, text: &str, expected: [usize; 7]| held.same(name, judge_read(&hex(text)), expected);
+    let nodes = |nodes: usize| [0, 0, nodes, 0, 0, 0, 0];
+    let shapes = |shapes: usize| [0, 0, 1, 0, 0, shapes, 0];
+
+    read("00 alone", "00", refused(3, 0));
+    read("00 00 alone", "00 00", refused(3, 2));
+    read("00 03 alone", "00 03", refused(22, 0));
+    read("an unknown profile, then a case", "00 03, 01 00 00, FF", refused(22, 0));
+    read("profile 255", "00 FF", refused(22, 0));
+    read("a second 00", "00 00 00 00", refused(2, 2));
+    read("a second 00, cut", "00 00 00", refused(2, 2));
+    read("a second 00, unknown", "00 01 00 03", refused(2, 2));
+    read("a second 00, then a case", "00 00, 00 00, 01 00 00, FF", refused(2, 2));
+    read("an edge straight after a 00", "00 00, 02 00 00 00 00 00", refused(2, 2));
+    read("the end straight after a 00", "00 02, FF", refused(2, 2));
+    read("an unknown command after a 00", "00 02, 04", refused(1, 2));
+    read("01 cut after a 00", "00 02, 01 00", refused(3, 2));
+    read("a second 01 after a 00", "00 02, 01 00 00, 01 00 00, FF", refused(2, 5));
+    for (behind, at) in [("", 3), ("02 00 00 00 00 00", 9), ("10 00", 5), ("20", 4), ("20, 30 00 00 00", 8)] {
+        read("00 after 01", &format!("01 01 00, {behind} 00 00, FF"), refused(2, at));
+        read("00 after 01, cut", &format!("01 01 00, {behind} 00"), refused(2, at));
+        read("00 after 00 and 01", &format!("00 00, 01 01 00, {behind} 00 00, FF"), refused(2, at + 2));
+    }
+    read("00 after the end", "01 00 00, FF, 00 00", refused(8, 4));
+    read("no 00 among parts", "00 02, 01 01 00, 28 00 20, FF", refused(1, 5));
+
+    for (profile, most) in [("00 00", 128), ("00 01", 256), ("00 02", 512)] {
+        let with = |n: usize| format!("{profile}, 01 {:02X} {:02X}, FF", n % 256, n / 256);
+        read("one node below the most", &with(most - 1), nodes(most - 1));
+        read("the most nodes", &with(most), nodes(most));
+        read("one node above the most", &with(most + 1), refused(4, 2));
+        read("the last node", &format!("{profile}, 01 {:02X} {:02X}, 20, 30 00 {:02X} {:02X}, FF", most % 256, most / 256, (most - 1) % 256, (most - 1) / 256), [0, 0, most, 0, 0, 1, 1]);
+        read("the node behind it", &format!("{profile}, 01 {:02X} {:02X}, 20, 30 00 {:02X} {:02X}, FF", most % 256, most / 256, most % 256, most / 256), refused(5, 6));
+    }
+    let tops = |count: usize| "20 ".repeat(count);
+    for (profile, most) in [("00 00", 32), ("00 01", 16), ("00 02", 8)] {
+        let mut with = |name: &str, written: String, expected: [usize; 7]| read(name, &format!("{profile}, 01 01 00, {written} FF"), expected);
+        with("one shape below the most", tops(most - 1), shapes(most - 1));
+        with("the most shapes", tops(most), shapes(most));
+        with("one shape above the most", tops(most + 1), refused(4, 5 + most));
+        with("the most shapes, one fresh", format!("{} 28 24 20,", tops(most - 2)), shapes(most));
+        with("one above, fresh", format!("{} 28 24 20,", tops(most - 1)), refused(19, 4 + most));
+        with("one above, written after a fresh one", format!("28 24 20, {}", tops(most - 1)), refused(19, 6 + most));
+        with("one above, a 28 with nothing behind it", format!("{} 28", tops(most)), refused(4, 5 + most));
+    }
+    read("8 in one", "00 02, 01 01 00, 28 24 24 24 24 24 24 24 20, FF", shapes(8));
+    read("9 in one", "00 02, 01 01 00, 28 22 20 24 24 24 24 24 24 20, FF", refused(19, 5));
+    read("9 in one under profile 1", "00 01, 01 01 00, 28 22 20 24 24 24 24 24 24 20, FF", shapes(9));
+}
+
+fn roads(held: &mut Held) {
+    let road = hex(ROAD);
+    held.same("road, read", judge_read(&road), [0, 0, 512, 2, 2, 7, 2]);
+    let at = |nodes: &[usize]| (0..512).map(|node| 2 * nodes.contains(&node) as u8).collect::<Vec<u8>>();
+    let all: Vec<usize> = (0..512).collect();
+    let others: Vec<usize> = (1..511).filter(|node| *node != 300).collect();
+    let expected = [at(&all), at(&[300, 511]), at(&[0, 300, 511]), at(&others), at(&[511]), at(&[0]), at(&[300, 511])].concat();
+    let (answer, v, l, d) = solved(&road);
+    held.same("road", answer, [0, 0, 2, 1030, 0, 1, 0, 1]);
+    held.same("road, values", v.clone(), expected);
+    held.same("road, verdicts", d, vec![2, 0]);
+    let level = |shape: usize, node: usize| l[512 * shape + node];
+    held.same("road, levels", [level(0, 0), level(1, 511), level(2, 0), level(2, 300), level(2, 511), level(3, 510), level(4, 511), level(5, 0), level(6, 511)], [1, 2, 2, 4, 6, 1, 2, 1, 5]);
+    held.same("road, solved proposal", judge_check(&road, &v, &level_bytes(&l)), [0, 0, 0, 1]);
+    held.same("road, old code", judge_check_supported(&road, &v), [0, 0, 0, 1, 1]);
+    held.same("road, values short", judge_solve(&road, &mut [0; 3583], &mut [0; 7168], &mut [0; 2]), [10, 3584, 0, 0, 0, 0, 0, 0]);
+    for (node, valid) in [(0, 3), (1, 2), (300, 4), (510, 2), (511, 5)] {
+        held.same("road, totals", judge_node_totals(&road, node), [0, 0, valid, 0]);
+    }
+    held.same("road, no node", judge_node_totals(&road, 512), [5, 512, 0, 0]);
+    let begun = judge_begin(&road);
+    held.same("road, begun", (begun.answer, begun.unfinished.copy() == &road[..]), ([0, 0, 512, 2, 2, 7, 2], true));
+    let unknown = judge_begin(&hex("00 03, 01 00 00, FF"));
+    held.same("an unknown profile, begun", (unknown.answer, unknown.unfinished.copy() == &NOTHING[..]), (refused(22, 0), true));
+    // the ring under each profile is solved as it is without one
+    for profile in ["00 00", "00 01", "00 02"] {
+        let ring = hex(&format!("{profile}, {RING}"));
+        held.same("ring of a profile, read", judge_read(&ring), [0, 0, 4, 4, 2, 5, 2]);
+        held.same("ring of a profile", solved(&ring), solved(&hex(RING)));
+    }
 }

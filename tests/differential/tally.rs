@@ -7,7 +7,7 @@ use crate::{old_code, proposals, totals, unfinished_kinds};
 use std::collections::BTreeMap;
 
 /// The numbers that reading can answer, and every other operation too.
-const READING: [usize; 13] = [0, 1, 2, 3, 4, 5, 6, 7, 8, 9, 18, 19, 20];
+const READING: [usize; 14] = [0, 1, 2, 3, 4, 5, 6, 7, 8, 9, 18, 19, 20, 22];
 
 /// The operations, each with what it can answer beside.
 const OPERATIONS: [(&str, &[usize]); 7] = [("read", &[]), ("solve", &[10, 11, 12]), ("check", &[10, 11, 13, 14, 15]), ("rank", &[16, 17]), ("totals", &[]), ("old check", &[10, 13, 14]), ("begin", &[])];
@@ -51,9 +51,18 @@ fn park_kinds(edges: &[Edge], at: usize) -> Vec<&'static str> {
     PARKS.into_iter().zip(is).filter(|(_, is)| *is).map(|(kind, _)| kind).collect()
 }
 
+/// What a case's profile can be.
+const PROFILES: [&str; 6] = ["no 00", "profile 0", "profile 1", "profile 2", "more than 128 nodes", "more than 256 nodes"];
+
+fn profile_kinds(case: &Case) -> Vec<&'static str> {
+    let named = PROFILES[case.profile.map_or(0, |profile| profile + 1)];
+    let wide = [(128, PROFILES[4]), (256, PROFILES[5])].into_iter().filter(|(nodes, _)| case.nodes > *nodes);
+    [named].into_iter().chain(wide.map(|(_, kind)| kind)).collect()
+}
+
 /// What is counted by kind and not by number.
 fn kinds() -> Vec<(&'static str, Vec<&'static str>)> {
-    vec![("proposals", proposals::names()), ("fresh shapes", FRESH.to_vec()), ("parks", PARKS.to_vec()), ("parked edges", vec!["that change values", "that change none"]), ("nodes asked", totals::ASKED.to_vec()), ("old code", old_code::KINDS.to_vec()), ("courses", unfinished_kinds::COURSES.to_vec()), ("states", unfinished_kinds::STATES.to_vec()), ("questions", unfinished_kinds::QUESTIONS.to_vec())]
+    vec![("proposals", proposals::names()), ("profiles", PROFILES.to_vec()), ("fresh shapes", FRESH.to_vec()), ("parks", PARKS.to_vec()), ("parked edges", vec!["that change values", "that change none"]), ("nodes asked", totals::ASKED.to_vec()), ("old code", old_code::KINDS.to_vec()), ("courses", unfinished_kinds::COURSES.to_vec()), ("states", unfinished_kinds::STATES.to_vec()), ("questions", unfinished_kinds::QUESTIONS.to_vec())]
 }
 
 #[derive(Default)]
@@ -85,8 +94,9 @@ impl Tally {
         *self.kinds.entry((group, kind)).or_insert(0) += 1;
     }
 
-    /// What a case that reads is made of: written shapes by the depth of their part, fresh ones by the kind of theirs, parks.
+    /// What a case that reads is made of: its profile, written shapes by the depth of their part, fresh ones by the kind of theirs, parks.
     pub fn note_case(&mut self, case: &Case) {
+        profile_kinds(case).into_iter().for_each(|kind| self.note_kind("profiles", kind));
         for part in &case.written {
             self.note_number("depths", part.depth());
         }

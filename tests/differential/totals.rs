@@ -43,7 +43,7 @@ pub fn examine_some_nodes(tally: &mut Tally, r: &mut Random, judge: &mut Judge, 
 }
 
 /// Every node, their sums, and some numbers that are none.
-fn examine_every_node(tally: &mut Tally, r: &mut Random, case: &[u8]) {
+pub fn examine_every_node(tally: &mut Tally, r: &mut Random, case: &[u8]) {
     tally.cases += 1;
     compare_sums(tally, case);
     let mut judge = Judge::new(case);

@@ -206,7 +206,7 @@ fn any_state(r: &mut Random, case: &[u8]) -> Unfinished {
 }
 
 /// Some advances and questions of a state that may hold this case, by the reference's equations.
-fn examine_state(tally: &mut Tally, r: &mut Random, case: &[u8]) {
+pub fn examine_state(tally: &mut Tally, r: &mut Random, case: &[u8]) {
     tally.cases += 1;
     let mut state = any_state(r, case);
     for _ in 0..3 {

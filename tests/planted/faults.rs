@@ -19,6 +19,10 @@ pub fn read(case: &[u8]) -> [usize; 7] {
     let answer = Judge::new(case).reading();
     match fault().as_str() {
         "place" => misplaced(answer),
+        "read-stack" => {
+            spend_stack(96);
+            answer
+        }
         _ => answer,
     }
 }
@@ -61,9 +65,20 @@ pub fn solve(case: &[u8], v: &mut [u8], l: &mut [u8], d: &mut [u8]) -> [usize; 8
         // the answer goes by a byte that nobody has set
         "unset" if solved && before.0.get(0) == Some(&0x5E) => answer[2] += 1,
         "shared" if solved => pass_through_shared(v),
+        "solve-stack" => spend_stack(640),
         _ => {}
     }
     answer
+}
+
+/// So many KiB of stack beside what the call needs.
+#[inline(never)]
+fn spend_stack(kib: usize) {
+    let spent = std::hint::black_box([0u8; 1024]);
+    if kib > 0 {
+        spend_stack(kib - 1);
+    }
+    std::hint::black_box(spent);
 }
 
 fn cancel_double_nots(judge: &mut Judge) {
@@ -217,6 +232,7 @@ pub fn begin(case: &[u8]) -> Begun {
     let state = &mut begun.unfinished;
     match fault().as_str() {
         "place" => begun.answer = misplaced(begun.answer),
+        "ask-stack" => spend_stack(160),
         "begin-count" if refused => begun.answer[2] = 1,
         "keeps-input" if refused => {
             state.length = case.len().min(state.bytes.len());
@@ -236,6 +252,7 @@ pub fn advance(state: &Unfinished) -> Advanced {
     let unfinished = &mut answer.unfinished;
     let pairs = Judge::new(state.copy()).read.map_or(0, |case| case.pairs());
     match fault().as_str() {
+        "advance-stack" => spend_stack(704),
         // once a round has changed no value
         "end-late" if unfinished.over == 1 && unfinished.values != state.values => {
             unfinished.over = 0;

@@ -103,6 +103,8 @@ struct Tally {
     well_founded_by_parts: usize,
     /// cases with a parked edge
     parked: usize,
+    /// cases with more than 128 nodes
+    roads: usize,
     /// cases held to all supported assignments
     all_supported: usize,
     /// assignments that the old code has to accept, those among them that no levels justify, and those that it has to refuse
@@ -131,6 +133,7 @@ impl Tally {
             ("consequences by parts", self.consequences_by_parts),
             ("well-founded model by parts", self.well_founded_by_parts),
             ("with a parked edge", self.parked),
+            ("with more than 128 nodes", self.roads),
             ("all supported assignments by clingo", self.all_supported),
             ("supported assignments", self.supported),
             ("supported and not stable", self.unfounded),
@@ -355,6 +358,20 @@ fn of_any_size(r: &mut Random) -> Size {
     }
 }
 
+/// Profiles 1 and 2, with as many nodes and shapes as they let in; few paths, since the solvers work out every filler of every path.
+fn road(r: &mut Random) -> Size {
+    let size = full_wide(r);
+    let layout = r.pick(&[Layout::Scattered, Layout::Chain, Layout::Ring, Layout::Half]);
+    Size { edges: r.range(600, 1024), properties: r.range(3, 6), paths: r.range(3, 8), targets: 0, layout, ..size }
+}
+
+/// Such cases, of which those are counted that no case without a 00 is as wide as.
+fn roads(tally: &mut Tally, r: &mut Random, count: usize) -> Vec<Asked> {
+    let batch = batch(r, count, road);
+    tally.roads += batch.iter().filter(|asked| asked.case.nodes > 128).count();
+    batch
+}
+
 /// The ring of document 01, written out and nested, and with a relay parked; the proposal of two fittings linked by each other is supported.
 fn rings(tally: &mut Tally) {
     let rings = [samples::RING, samples::NESTED_RING, samples::PARKED_RING].map(|text| Asked::new(&vec![samples::hex(text)]));
@@ -412,6 +429,14 @@ fn kinds() -> Vec<Kind<Tally>> {
         }),
         Kind::drawn("parked, small or medium", 4, |tally, r, _| {
             let cases = parked_batch(tally, r, 60, small_or_medium_parked);
+            well_founded(tally, &cases, By::Expansion);
+        }),
+        Kind::drawn("roads by clingo", 4, |tally, r, _| {
+            let cases = roads(tally, r, 4);
+            consequences(tally, &cases, By::Expansion);
+        }),
+        Kind::drawn("roads by SWI-Prolog", 6, |tally, r, _| {
+            let cases = roads(tally, r, 4);
             well_founded(tally, &cases, By::Expansion);
         }),
         Kind::listed("supported rings", 1, |tally, _, _| rings(tally)),

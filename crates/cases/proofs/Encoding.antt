@@ -1,4 +1,5 @@
--- A sound case that keeps the limits and parks edges that it has laid is read back from its encoding, and reading bytes gives exactly such cases. Assumes nothing.
+-- A sound case that keeps a profile's limits and parks edges that it has laid is read back from its encoding under that profile, and reading
+-- bytes gives exactly such cases. Assumes nothing.
 use Prim.Native.Nat.{ℕ, zero, suc, _+_, _*_, _/_, _%_, _≤_, _<_}
 use native.Mathlib.Omega.{arith}
 use mathlib.Core.Path.{_≡_, refl, sym, ap, _∙_}
@@ -8,7 +9,7 @@ use mathlib.Core.List.{List, [], _∷_, _++_, map, append-assoc, append-nil, map
 use lib.ListN.{length, getD, drop, length-append, length-drop}
 use lib.Seq.{getD-append-seam, drop-drop}
 use lib.Dec.{eqb, ltb}
-use borrow.Author.Tests.{lt-ltb, le-ltb, le-leb, leb-true, ne-eqb, eqb-true, eqb-false}
+use borrow.Author.Tests.{lt-ltb, le-ltb, le-leb, leb-true, ne-eqb, eqb-true}
 use Rattle.fixpoint.specs.Lists.{all}
 use Rattle.fixpoint.proofs.Lists.{tests, bool-cases, by-test, or-cases, or-left, or-right, all-in, all-append, all-map, all-mono}
 use Rattle.cases.specs.declared.command.Edge.{Edge}
@@ -23,22 +24,24 @@ use Rattle.cases.specs.declared.command.ShapeRule.{ShapeRule}
 use Rattle.cases.specs.declared.command.ShapeRule.the-variants.{Top, Node, And, Or, Not, Same, All, AtLeast}
 use Rattle.cases.specs.declared.numbers.Node.{Node as NodeNumber}
 use Rattle.cases.specs.declared.numbers.Property.{Property}
+use Rattle.cases.specs.declared.answers.Heading.the-variants.{Is as HeadingIs}
 use Rattle.cases.specs.declared.answers.Step.the-variants.{Is}
 use Rattle.cases.specs.declared.answers.Taken.{Taken}
 use Rattle.cases.specs.Case.{Case, emptyCase, countsOf, pathRule, pathsOfPath, pathsOfShape, references}
-use Rattle.cases.specs.Counts.{nodeLimit}
-use Rattle.cases.specs.Format.{formatOf, groupOf, widthOf, takenOf, numberAt, rowOf, operandsBy, pathRuleOf, shapeRuleOf, commandOf, commandAt}
+use Rattle.cases.specs.Counts.{isProfile, nodeLimit, shapeLimit}
+use Rattle.cases.specs.Format.{formatOf, groupOf, widthOf, takenOf, numberAt, rowOf, complete, operandsBy, pathRuleOf, shapeRuleOf, commandOf, commandAt}
 use Rattle.cases.specs.Faults.{inOrder, withinLimit, laid, edgeThere, shapeNodesKnown, pathPathsEarlier, shapePathsEarlier, shapeLeastPositive}
 use Rattle.cases.specs.Parts.{Plain, names}
-use Rattle.cases.specs.Reading.{judged, stepAt, noRefusal, Note, Progress, start, countsSoFar, add, shapesNamed, namedAt, Entry, Shape, Other, pass}
-use Rattle.cases.specs.Reading.{Found, Good, entryOf, roomFor, roomyFound, parkable, foundAt, unknownShape, afterEnd, Walked, refused, finish, isEnd, isEndEntry, stepped, walk, walked}
+use Rattle.cases.specs.Reading.{headingOf, headingProfile, judged, stepAt, noRefusal, Note, Progress, start, countsSoFar, add, shapesNamed, namedAt, Entry, Shape, Other, pass}
+use Rattle.cases.specs.Reading.{Found, Good, entryOf, roomFor, roomyFound, parkable, foundAt, unknownShape, afterEnd, Walked, refused, finish, isEnd, isEndEntry, stepped, walk, walkedFrom, walked, profileOf}
 use Rattle.cases.specs.Reading.{Outcome, expanded, outcome}
 use Rattle.cases.specs.Sound.{Sound, Limited, Recorded}
-use Rattle.cases.specs.Encoding.{twoBytes, encodeEdge, encodePath, encodeShape, encodeTarget, encodeAll, encode, pathByte, shapeByte, OneByteEach, Readable}
+use Rattle.cases.specs.Encoding.{twoBytes, encodeEdge, encodePath, encodeShape, encodeTarget, encodeAll, encodeCase, encode, pathByte, shapeByte, OneByteEach, Readable}
 use Rattle.cases.proofs.Expansion.{ruled, expansion-passes, plain-length, plain-expansion}
 use Rattle.cases.proofs.Opening.{byte-blind}
-use Rattle.cases.proofs.Steps.{oneByte, EntryShows, walk-keeps}
-use Rattle.cases.proofs.Sound.{outcome-sound, outcome-limited}
+use Rattle.cases.proofs.Profiles.{shapes-at-most, nodes-at-most}
+use Rattle.cases.proofs.Steps.{oneByte, EntryShows, walked-keeps}
+use Rattle.cases.proofs.Sound.{profile-pass, outcome-sound, outcome-limited}
 use Rattle.cases.proofs.Recording.{recordedAt, recorded-in, outcome-recorded}
 
 -- ---- Lists of bytes: a number below 65,536 is two, and each number below 256 is one
@@ -148,15 +151,7 @@ bytes-target : (t : Target) {l : List ℕ} → t .shape .0 < 256 → t .node .0 
 unfolding encodeTarget
 bytes-target t h a k = bytes-more (omega arith) (bytes-more h (bytes-two a k))
 
--- ---- The order of the groups: none is 0, and behind the first, 1, each may repeat and later ones may follow
-
-order-some : (last g : ℕ) → inOrder last g ≡ true → 1 ≤ g
-order-some last zero h =
-    ⊎-elim
-    (λ z. absurd (false≢true (rw z at h)))
-    (λ z. absurd (eqb-false last 0 z (omega (arith, leb-true last 0 (rw z at h)))))
-    (bool-cases (eqb last 0))
-order-some last (suc g) h = omega arith
+-- ---- The order of the groups: behind the first, 1, each may repeat and later ones may follow
 
 order-again : (g : ℕ) → 2 ≤ g → inOrder g g ≡ true
 order-again g h = rw (ne-eqb g 0 (omega arith), ne-eqb g 1 (omega arith)) (le-leb g g (omega arith))
@@ -181,7 +176,7 @@ unfolding countsSoFar countsOf
 counts-held {c = c} h = rw (h .case-is, h .written-is, plain-length (c .shapes))
 
 -- there is room for one shape more, none being fresh
-room-held : {p : Progress} {c : Case} → Holds p c → (command : Command) → withinLimit (countsOf c) command ≡ true → roomFor p (entryOf command) ≡ true
+room-held : {p : Progress} {c : Case} → Holds p c → (command : Command) → withinLimit (p .profile) (countsOf c) command ≡ true → roomFor p (entryOf command) ≡ true
 unfolding countsOf
 room-held h (Nodes n) w = refl
 room-held h (EdgeCommand e) w = refl
@@ -189,7 +184,7 @@ room-held h (PathCommand r) w = refl
 room-held {p} {c} h (ShapeCommand r) w =
     let l = c .shapes ++ (r ∷ []) in
     let e : map Plain (c .shapes) ++ (Plain r ∷ []) ≡ map Plain l = sym (map-append Plain (c .shapes) (r ∷ [])) in
-    rw (h .written-is, e, plain-expansion l) (le-leb (length l) 32 (omega (arith, tests, length-append (c .shapes) (r ∷ []))))
+    rw (h .written-is, e, plain-expansion l) (le-leb (length l) (shapeLimit (p .profile)) (omega (arith, tests, length-append (c .shapes) (r ∷ []))))
 room-held h (TargetCommand t) w = refl
 room-held h End w = refl
 
@@ -222,21 +217,28 @@ entry-passes p at g (ShapeCommand r) = (refl, refl, refl)
 entry-passes p at g (TargetCommand t) = (refl, refl, refl)
 entry-passes p at g End = (refl, refl, refl)
 
--- a command of the group g that `write` puts before other bytes, and that has no fault behind the case c if there are n shapes in the end
-record Fits (n g : ℕ) (c : Case) (command : Command) (write : List ℕ → List ℕ) : Type 0 where
+-- the profile, and how many shapes there are in the end
+record Bounds : Type 0 where
+  profile : ℕ
+  shapes : ℕ
+
+-- a command of the group g that `write` puts before other bytes, and that has no fault behind the case c within these bounds
+record Fits (b : Bounds) (g : ℕ) (c : Case) (command : Command) (write : List ℕ → List ℕ) : Type 0 where
+  known : g < 7
   is : (l : List ℕ) → found (write l) ≡ record { command = command; group = g; rest = l }
   bytes : (l : List ℕ) → Bytes l → Bytes (write l)
-  within : withinLimit (countsOf c) command ≡ true
-  passes : (row : Row) (taken : Taken) → judged (countsOf c) command row taken ≡ Is command row taken
+  within : withinLimit (b .profile) (countsOf c) command ≡ true
+  passes : (row : Row) (taken : Taken) → judged (b .profile) (countsOf c) command row taken ≡ Is command row taken
   there : edgeThere (c .edges) command ≡ true
-  named : all (shapesNamed command) (λ s. ltb s n) ≡ true
+  named : all (shapesNamed command) (λ s. ltb s (b .shapes)) ≡ true
 
--- the walk stands before these bytes, with fuel above them and behind the case c; the shapes named so far are below n
-record Stands (n : ℕ) (c : Case) (bytes : List ℕ) (fuel : ℕ) (s : List ℕ) (at : ℕ) (p : Progress) : Type 0 where
+-- the walk stands before these bytes, with fuel above them and behind the case c, under the profile; the shapes named so far are known
+record Stands (b : Bounds) (c : Case) (bytes : List ℕ) (fuel : ℕ) (s : List ℕ) (at : ℕ) (p : Progress) : Type 0 where
   left : drop at s ≡ bytes
   fuelled : length s < at + fuel
+  under : p .profile ≡ b .profile
   holds : Holds p c
-  known : all (p .named) (λ r. ltb (r .shape) n) ≡ true
+  known : all (p .named) (λ r. ltb (r .shape) (b .shapes)) ≡ true
 
 -- the walk comes to the case c
 record ReadAs (w : Walked) (c : Case) : Type 0 where
@@ -244,10 +246,10 @@ record ReadAs (w : Walked) (c : Case) : Type 0 where
   holds : Holds (w .read) c
 
 -- bytes that, read behind the case `before` and where the group g can follow, give the case c
-record Reads (n g : ℕ) (before : Case) (bytes : List ℕ) (c : Case) : Type 0 where
+record Reads (b : Bounds) (g : ℕ) (before : Case) (bytes : List ℕ) (c : Case) : Type 0 where
   some : 1 ≤ length bytes
   are-bytes : Bytes bytes
-  gives : {fuel : ℕ} {s : List ℕ} {at : ℕ} {p : Progress} → Stands n before bytes fuel s at p → inOrder (p .last) g ≡ true
+  gives : {fuel : ℕ} {s : List ℕ} {at : ℕ} {p : Progress} → Stands b before bytes fuel s at p → inOrder (p .last) g ≡ true
       → ReadAs (walk fuel s at p) c
 
 -- what is found
@@ -255,29 +257,29 @@ abbrev foundOf : Command → ℕ → List ℕ → Found
 foundOf command g bytes = Good (entryOf command) (record { group = g; width = widthAt bytes })
 
 -- a byte of a known group is none of 28
-not-nested : (b g : ℕ) → groupOf b ≡ g → 0 < g → eqb b 0x28 ≡ false
+not-nested : (b g : ℕ) → groupOf b ≡ g → g < 7 → eqb b 0x28 ≡ false
 unfolding formatOf
-not-nested b g e h = by-test (eqb b 0x28) (λ q. absurd (let z : 0 ≡ g = rw (eqb-true b 0x28 q) at e in omega arith)) (λ q. q)
+not-nested b g e h = by-test (eqb b 0x28) (λ q. absurd (let z : 7 ≡ g = rw (eqb-true b 0x28 q) at e in omega arith)) (λ q. q)
 
-module _ {n g : ℕ} {c : Case} {command : Command} {write : List ℕ → List ℕ} (m : Fits n g c command write)
+module _ {n : Bounds} {g : ℕ} {c : Case} {command : Command} {write : List ℕ → List ℕ} (m : Fits n g c command write)
     (l : List ℕ) (whole : widthAt (write l) ≤ length (write l)) where
   group-is : groupOf (getD (write l) 0 0) ≡ g
   unfolding found
   group-is = ap (λ o. o .group) (m .is l)
 
   step-fits : {fuel : ℕ} {s : List ℕ} {at : ℕ} {p : Progress} → Stands n c (write l) fuel s at p → inOrder (p .last) g ≡ true
-      → stepAt (p .last) (countsSoFar p) (write l) ≡ Is command (rowOf (write l)) (record { group = g; width = widthAt (write l) })
+      → stepAt (p .profile) (p .last) (countsSoFar p) (write l) ≡ Is command (rowOf (write l)) (record { group = g; width = widthAt (write l) })
   unfolding found stepAt operandsBy takenOf widthOf
   step-fits {p} b order =
-      rw (counts-held (b .holds), group-is, ap (λ o. o .command) (m .is l), lt-ltb 0 g (order-some (p .last) g order), order)
+      rw (counts-held (b .holds), b .under, group-is, ap (λ o. o .command) (m .is l), lt-ltb g 7 (m .known), order)
       (rw (le-leb (widthAt (write l)) (length (write l)) whole) (m .passes (rowOf (write l)) (record { group = g; width = widthAt (write l) })))
 
   found-fits : {fuel : ℕ} {s : List ℕ} {at : ℕ} {p : Progress} → Stands n c (write l) fuel s at p → inOrder (p .last) g ≡ true
       → foundAt p (drop at s) ≡ foundOf command g (write l)
   unfolding foundAt roomyFound
   found-fits {p} b order =
-      rw (b .left, not-nested (getD (write l) 0 0) g group-is (order-some (p .last) g order))
-      (rw (step-fits b order) (rw (room-held (b .holds) command (m .within)) (rw (there-held (b .holds) command (m .there)))))
+      rw (b .left, not-nested (getD (write l) 0 0) g group-is (m .known))
+      (rw (step-fits b order) (rw (room-held (b .holds) command (rw (b .under) (m .within))) (rw (there-held (b .holds) command (m .there)))))
 
   walk-starts : {fuel : ℕ} {s : List ℕ} {at : ℕ} {p : Progress} → Stands n c (write l) fuel s at p → at < length s
   unfolding widthOf
@@ -294,17 +296,18 @@ module _ {n g : ℕ} {c : Case} {command : Command} {write : List ℕ → List �
       → Stands n (add c command) l fuel s (at + widthAt (write l)) (pass p at g (entryOf command))
   unfolding found namedAt widthOf
   stands-next {s} {at} {p} b =
-      let t : Note → Bool = λ r. ltb (r .shape) n in
+      let t : Note → Bool = λ r. ltb (r .shape) (n .shapes) in
       let new : all (namedAt at (shapesNamed command)) t ≡ true = all-map (λ x. record { shape = x; place = at }) (shapesNamed command) t ∙ m .named in
       record {
         left = sym (drop-drop (widthAt (write l)) at s) ∙ rw (b .left) (ap (λ o. o .rest) (m .is l));
         fuelled = omega arith;
+        under = profile-pass p at g (entryOf command) ∙ b .under;
         holds = holds-more at g command (b .holds);
         known = rw (entry-passes p at g command .1) (all-append (p .named) (namedAt at (shapesNamed command)) t ∙ rw (b .known) new);
       }
 
 -- a command that isn't the end, before bytes that are read: it is whole, since there are bytes behind it
-command-reads : {n g next : ℕ} {c after : Case} {command : Command} {write : List ℕ → List ℕ} {l : List ℕ} → Fits n g c command write → isEnd command ≡ false
+command-reads : {n : Bounds} {g next : ℕ} {c after : Case} {command : Command} {write : List ℕ → List ℕ} {l : List ℕ} → Fits n g c command write → isEnd command ≡ false
     → Reads n next (add c command) l after → inOrder g next ≡ true → Reads n g c (write l) after
 unfolding found stepped
 command-reads {g = g} {command = command} {write} {l} m goes-on r order =
@@ -329,13 +332,17 @@ unknownShape-known n (r ∷ l) h =
     let e = and-eq-true-iff (ltb (r .shape) n) (all l (λ r. ltb (r .shape) n)) .0 h in
     rw (e .0) (unknownShape-known n l (e .1))
 
-end-fits : {n : ℕ} {c : Case} → Fits n 6 c End (λ l. 0xff ∷ l)
+end-fits : {n : Bounds} {c : Case} → Fits n 6 c End (λ l. 0xff ∷ l)
 unfolding judged shapesNamed all
-end-fits = record { is = found-end; bytes = λ l. bytes-more (omega arith); within = refl; passes = λ row taken. refl; there = refl; named = refl }
+end-fits = record { known = omega arith; is = found-end; bytes = λ l. bytes-more (omega arith); within = refl; passes = λ row taken. refl; there = refl; named = refl }
 
-end-reads : {c : Case} → Reads (length (c .shapes)) 6 c (0xff ∷ []) c
+-- the bounds of a case that is read under a profile
+abbrev boundsOf : ℕ → Case → Bounds
+boundsOf profile c = record { profile = profile; shapes = length (c .shapes) }
+
+end-reads : {profile : ℕ} {c : Case} → Reads (boundsOf profile c) 6 c (0xff ∷ []) c
 unfolding stepped finish afterEnd widthOf formatOf all
-end-reads {c} =
+end-reads {c = c} =
     record {
       some = omega arith;
       are-bytes = bytes-more (omega arith) (record { each = refl });
@@ -369,13 +376,13 @@ module _ {A : Type 0} {whole prior : List A} {x : A} (i : In whole prior x) wher
   in-passes t h = rw (in-at x) at (all-in whole t h (length prior) x in-room)
 
 -- how an element of a list is written, the command that it is, of the group g, and the case in which the first of the list have been read
-record Kind {A : Type 0} (n g : ℕ) (write : A → List ℕ → List ℕ) (make : A → Command) (put : List A → Case) (whole : List A) : Type 0 where
+record Kind {A : Type 0} (n : Bounds) (g : ℕ) (write : A → List ℕ → List ℕ) (make : A → Command) (put : List A → Case) (whole : List A) : Type 0 where
   second : 2 ≤ g
   goes-on : (x : A) → isEnd (make x) ≡ false
   puts : (prior : List A) (x : A) → add (put prior) (make x) ≡ put (prior ++ (x ∷ []))
   fits : (prior : List A) (x : A) → In whole prior x → Fits n g (put prior) (make x) (write x)
 
-module _ {A : Type 0} {n g next : ℕ} {write : A → List ℕ → List ℕ} {make : A → Command} {put : List A → Case} {whole : List A} {l : List ℕ} {c : Case}
+module _ {A : Type 0} {n : Bounds} {g next : ℕ} {write : A → List ℕ → List ℕ} {make : A → Command} {put : List A → Case} {whole : List A} {l : List ℕ} {c : Case}
     (k : Kind n g write make put whole) (r : Reads n next (put whole) l c) (h : g ≤ next) where
   reads-later : (prior later : List A) → prior ++ later ≡ whole → Reads n g (put prior) (encodeAll write later l) c
   unfolding encodeAll
@@ -412,8 +419,8 @@ edge-there before e h =
     (λ x. or-right (not parks) (laid before e) (and-eq-true-iff parks (laid before e) .0 x .1))
     (or-cases (eqb (e .code) 0x02) (parks && laid before e) h)
 
-module _ (c : Case) (k : Sound c) (m : Limited c) (o : OneByteEach c) (q : Recorded c) where
-  edge-kind : Kind (length (c .shapes)) 2 encodeEdge EdgeCommand (λ l. caseWith (c .nodes) l [] [] []) (c .edges)
+module _ (profile : ℕ) (c : Case) (k : Sound c) (m : Limited profile c) (o : OneByteEach c) (q : Recorded c) where
+  edge-kind : Kind (boundsOf profile c) 2 encodeEdge EdgeCommand (λ l. caseWith (c .nodes) l [] [] []) (c .edges)
   unfolding add countsOf judged shapesNamed all
   edge-kind = record {
     second = omega arith;
@@ -424,8 +431,9 @@ module _ (c : Case) (k : Sound c) (m : Limited c) (o : OneByteEach c) (q : Recor
         let known : recordedAt prior e ≡ true = recorded-in [] prior e (i .later) (rw (i .is) (q .edges-recorded)) in
         let code = edge-code prior e known in
         record {
+          known = omega arith;
           is = λ l. found-edge l e code;
-          bytes = λ l. bytes-edge (c .nodes) e (omega arith) (⊎-elim (λ x. omega arith) (λ x. omega arith) code) (in-passes i (λ e. ltb (e .property .0) 256) (o .edges)) ends;
+          bytes = λ l. bytes-edge (c .nodes) e (omega (arith, nodes-at-most profile)) (⊎-elim (λ x. omega arith) (λ x. omega arith) code) (in-passes i (λ e. ltb (e .property .0) 256) (o .edges)) ends;
           within = in-limit i (m .edges-limited);
           passes = λ row taken. rw (in-limit i (m .edges-limited), ends);
           there = edge-there prior e known;
@@ -433,7 +441,7 @@ module _ (c : Case) (k : Sound c) (m : Limited c) (o : OneByteEach c) (q : Recor
         };
   }
 
-  path-kind : Kind (length (c .shapes)) 3 encodePath PathCommand (λ l. caseWith (c .nodes) (c .edges) l [] []) (c .paths)
+  path-kind : Kind (boundsOf profile c) 3 encodePath PathCommand (λ l. caseWith (c .nodes) (c .edges) l [] []) (c .paths)
   unfolding add countsOf judged shapesNamed all pathRule pathPathsEarlier
   path-kind = record {
     second = omega arith;
@@ -443,6 +451,7 @@ module _ (c : Case) (k : Sound c) (m : Limited c) (o : OneByteEach c) (q : Recor
         let n = length prior in
         let earlier : pathPathsEarlier n r ≡ true = rw (in-at i (Union (record { 0 = n }) (record { 0 = n }))) at (k .paths-earlier n (in-room i)) in
         record {
+          known = omega arith;
           is = λ l. found-path l r;
           bytes = λ l b. bytes-path r l (in-passes i pathByte (o .paths)) (bytes-below n (pathsOfPath r) (omega (arith, in-room i)) earlier b);
           within = in-limit i (m .paths-limited);
@@ -452,7 +461,7 @@ module _ (c : Case) (k : Sound c) (m : Limited c) (o : OneByteEach c) (q : Recor
         };
   }
 
-  shape-kind : Kind (length (c .shapes)) 4 encodeShape ShapeCommand (λ l. caseWith (c .nodes) (c .edges) (c .paths) l []) (c .shapes)
+  shape-kind : Kind (boundsOf profile c) 4 encodeShape ShapeCommand (λ l. caseWith (c .nodes) (c .edges) (c .paths) l []) (c .shapes)
   unfolding add countsOf judged shapesNamed shapePathsEarlier
   shape-kind = record {
     second = omega arith;
@@ -463,12 +472,13 @@ module _ (c : Case) (k : Sound c) (m : Limited c) (o : OneByteEach c) (q : Recor
         let paths = in-passes i (shapePathsEarlier (length (c .paths))) (k .shapes-paths) in
         let named = in-passes i (λ r. all (references r) (λ s. ltb s (length (c .shapes)))) (k .shapes-named) in
         record {
+          known = omega arith;
           is = λ l. found-shape l r;
           bytes =
               λ l b.
-              bytes-shape (c .nodes) r l (omega arith) (in-passes i shapeByte (o .shapes)) nodes
+              bytes-shape (c .nodes) r l (omega (arith, nodes-at-most profile)) (in-passes i shapeByte (o .shapes)) nodes
               (bytes-below (length (c .paths)) (pathsOfShape r) (omega arith) paths
-              (bytes-below (length (c .shapes)) (references r) (omega arith) named b));
+              (bytes-below (length (c .shapes)) (references r) (omega (arith, shapes-at-most profile)) named b));
           within = in-limit i (m .shapes-limited);
           passes = λ row taken. rw (in-limit i (m .shapes-limited), nodes, paths, in-passes i shapeLeastPositive (k .least-positive));
           there = refl;
@@ -476,7 +486,7 @@ module _ (c : Case) (k : Sound c) (m : Limited c) (o : OneByteEach c) (q : Recor
         };
   }
 
-  target-kind : Kind (length (c .shapes)) 5 encodeTarget TargetCommand (λ l. caseWith (c .nodes) (c .edges) (c .paths) (c .shapes) l) (c .targets)
+  target-kind : Kind (boundsOf profile c) 5 encodeTarget TargetCommand (λ l. caseWith (c .nodes) (c .edges) (c .paths) (c .shapes) l) (c .targets)
   unfolding add countsOf judged shapesNamed all
   target-kind = record {
     second = omega arith;
@@ -486,8 +496,9 @@ module _ (c : Case) (k : Sound c) (m : Limited c) (o : OneByteEach c) (q : Recor
         let node = in-passes i (λ t. ltb (t .node .0) (c .nodes)) (k .targets-known) in
         let shape = in-passes i (λ t. ltb (t .shape .0) (length (c .shapes))) (k .targets-named) in
         record {
+          known = omega arith;
           is = λ l. found-target l t;
-          bytes = λ l. bytes-target t (omega (arith, tests)) (omega (arith, tests));
+          bytes = λ l. bytes-target t (omega (arith, tests, shapes-at-most profile)) (omega (arith, tests, nodes-at-most profile));
           within = in-limit i (m .targets-limited);
           passes = λ row taken. rw (in-limit i (m .targets-limited), node);
           there = refl;
@@ -495,19 +506,20 @@ module _ (c : Case) (k : Sound c) (m : Limited c) (o : OneByteEach c) (q : Recor
         };
   }
 
-  nodes-fits : Fits (length (c .shapes)) 1 emptyCase (Nodes (c .nodes)) (λ l. 0x01 ∷ twoBytes (c .nodes) l)
+  nodes-fits : Fits (boundsOf profile c) 1 emptyCase (Nodes (c .nodes)) (λ l. 0x01 ∷ twoBytes (c .nodes) l)
   unfolding judged shapesNamed all
   nodes-fits = record {
+    known = omega arith;
     is = λ l. found-nodes l (c .nodes);
-    bytes = λ l b. bytes-more (omega arith) (bytes-two (omega arith) b);
-    within = le-leb (c .nodes) nodeLimit (m .nodes-limited);
-    passes = λ row taken. rw (le-leb (c .nodes) nodeLimit (m .nodes-limited));
+    bytes = λ l b. bytes-more (omega arith) (bytes-two (omega (arith, nodes-at-most profile)) b);
+    within = le-leb (c .nodes) (nodeLimit profile) (m .nodes-limited);
+    passes = λ row taken. rw (le-leb (c .nodes) (nodeLimit profile) (m .nodes-limited));
     there = refl;
     named = refl;
   }
 
-  encode-reads : Reads (length (c .shapes)) 1 emptyCase (encode c) c
-  unfolding encode add emptyCase
+  encode-reads : Reads (boundsOf profile c) 1 emptyCase (encodeCase c) c
+  unfolding encodeCase add emptyCase
   encode-reads =
       let targets = reads-all target-kind end-reads (omega arith) in
       let shapes = reads-all shape-kind targets (omega arith) in
@@ -520,13 +532,32 @@ expanded-held : {p : Progress} {c : Case} → Holds p c → expanded p ≡ c
 unfolding expanded
 expanded-held {c = c} h = rw (h .case-is, h .written-is, plain-expansion (c .shapes))
 
-pub read-back : (c : Case) → Sound c → Limited c → OneByteEach c → Recorded c → _≡_ {A = Outcome} (outcome (encode c)) (record { refusal = noRefusal; case = c })
-unfolding outcome walked start emptyCase all
-read-back c k m o q =
-    let begun : Stands (length (c .shapes)) emptyCase (encode c) (suc (length (encode c))) (encode c) 0 start =
-    record { left = refl; fuelled = omega arith; holds = record { case-is = refl; written-is = refl }; known = refl } in
-    let r = encode-reads c k m o q .gives begun refl in
-    rw (r .unrefused, expanded-held (r .holds))
+-- a 00 with a known profile
+pub heading-is : (profile : ℕ) (l : List ℕ) → isProfile profile ≡ true → headingOf (0x00 ∷ profile ∷ l) ≡ HeadingIs profile 2
+unfolding headingOf complete widthOf formatOf rowOf numberAt
+heading-is profile l h =
+    let s : List ℕ = 0x00 ∷ profile ∷ l in
+    rw (lt-ltb 0 (length s) (omega arith), le-leb 2 (length s) (omega arith), h)
+
+module _ (profile : ℕ) (c : Case) (k : Sound c) (m : Limited profile c) (o : OneByteEach c) (q : Recorded c) where
+  encoding-read : ReadAs (walked (encode profile c)) c
+  unfolding walked walkedFrom encode start emptyCase all
+  encoding-read =
+      let s = encode profile c in
+      let begun : Stands (boundsOf profile c) emptyCase (encodeCase c) (suc (length s)) s 2 (start profile) =
+      record { left = refl; fuelled = omega arith; under = refl; holds = record { case-is = refl; written-is = refl }; known = refl } in
+      rw (heading-is profile (encodeCase c) (m .known)) (encode-reads profile c k m o q .gives begun refl)
+
+  pub read-back : _≡_ {A = Outcome} (outcome (encode profile c)) (record { refusal = noRefusal; case = c })
+  unfolding outcome
+  read-back = rw (encoding-read .unrefused, expanded-held (encoding-read .holds))
+
+  encoding-bytes : all (encode profile c) (λ b. ltb b 256) ≡ true
+  unfolding encode
+  encoding-bytes =
+      let behind : Bytes (profile ∷ encodeCase c) = bytes-more (omega (arith, leb-true profile 2 (m .known))) (encode-reads profile c k m o q .are-bytes) in
+      let whole : Bytes (0x00 ∷ profile ∷ encodeCase c) = bytes-more (omega arith) behind in
+      whole .each
 
 -- ---- Of bytes, reading gives properties and least numbers of one byte
 
@@ -555,33 +586,35 @@ unfolding EntryShows pass all
 entry-byte p part at g (Shape x) b h o = record { edges = o .edges; paths = o .paths; shapes = rw (all-append, o .shapes, h .bytes b) }
 entry-byte p part at g (Other command) b h o = command-byte p at g command (h .bytes b) o
 
-start-bytes : BytesSoFar start
+start-bytes : (profile : ℕ) → BytesSoFar (start profile)
 unfolding start emptyCase all
-start-bytes = record { edges = refl; paths = refl; shapes = refl }
+start-bytes profile = record { edges = refl; paths = refl; shapes = refl }
 
 bytes-each : (p : Progress) → BytesSoFar p → OneByteEach (expanded p)
 unfolding expanded
 bytes-each p o = record { edges = o .edges; paths = o .paths; shapes = expansion-passes byte-blind (p .written) (o .shapes) }
 
 pub outcome-one-byte : (s : List ℕ) → all s (λ b. ltb b 256) ≡ true → OneByteEach (outcome s .case)
-unfolding outcome walked finish refused
+unfolding outcome finish refused
 outcome-one-byte s h =
-    walk-keeps BytesSoFar (λ w. OneByteEach (expanded (w .read))) s
-    (λ n at k. bytes-each start start-bytes)
-    (λ end p k. by-test (eqb (afterEnd s end p .number) 0) (λ e. rw e (bytes-each p k)) (λ e. rw e (bytes-each start start-bytes)))
+    walked-keeps BytesSoFar (λ w. OneByteEach (expanded (w .read))) s
+    (λ n at k. bytes-each (start 0) (start-bytes 0))
+    (λ end p k. by-test (eqb (afterEnd s end p .number) 0) (λ e. rw e (bytes-each p k)) (λ e. rw e (bytes-each (start 0) (start-bytes 0))))
     (λ at p e taken k room o. entry-byte p (drop at s) at (taken .group) e (all-drop s at (λ b. ltb b 256) h) (k .entry) o)
-    (suc (length s)) 0 start start-bytes
+    (λ h. start-bytes (profileOf s))
 
 -- ---- The sound cases that keep the limits and can be written in bytes are exactly those that reading gives
-pub sound-exactly : (c : Case) → (Sound c × Limited c × OneByteEach c × Recorded c) ↔ Readable c
-sound-exactly c = (
+pub sound-exactly : (profile : ℕ) (c : Case) → (Sound c × Limited profile c × OneByteEach c × Recorded c) ↔ Readable profile c
+unfolding profileOf encode
+sound-exactly profile c = (
   λ h. record {
-    bytes = encode c;
-    are-bytes = encode-reads c (h .0) (h .1) (h .2) (h .3) .are-bytes .each;
-    reads = read-back c (h .0) (h .1) (h .2) (h .3);
+    bytes = encode profile c;
+    are-bytes = encoding-bytes profile c (h .0) (h .1) (h .2) (h .3);
+    under = ap headingProfile (heading-is profile (encodeCase c) (h .1 .known));
+    reads = read-back profile c (h .0) (h .1) (h .2) (h .3);
   },
   λ r.
       let s = r .bytes in
       let is : outcome s .case ≡ c = ap (λ o. o .case) (r .reads) in
-      rw (← is) (outcome-sound s, outcome-limited s, outcome-one-byte s (r .are-bytes), outcome-recorded s),
+      rw (← is, ← r .under) (outcome-sound s, outcome-limited s, outcome-one-byte s (r .are-bytes), outcome-recorded s),
 )

@@ -1,6 +1,6 @@
 -- The case in a table of rows: its counts, and what stands at a number of each kind. Assumes nothing.
 use Prim.Native.Nat.{ℕ, _<_}
-use native.Mathlib.Nat.{mul-le-mul}
+use native.Mathlib.Nat.{mul-le-mul, le-trans}
 use native.Mathlib.Omega.{arith}
 use mathlib.Core.Path.{_≡_, refl}
 use mathlib.Core.List.{List, map}
@@ -9,9 +9,10 @@ use Rattle.fixpoint.specs.Lists.{upTo}
 use Rattle.fixpoint.proofs.Lists.{length-upTo, getD-made}
 use Rattle.cases.specs.declared.counts.Counts.{Counts}
 use Rattle.cases.specs.Case.{Case, countsOf, pathRule, shapeRule}
-use Rattle.cases.specs.Counts.{wordsOf, Fit}
+use Rattle.cases.specs.Counts.{Fit}
 use Rattle.cases.specs.Rows.{edgeIn, pathIn, shapeIn, targetIn, caseIn}
 use Rattle.cases.specs.Sound.{Limited}
+use Rattle.cases.proofs.Profiles.{shapes-at-most, limit-product, words-fit}
 
 -- The counts of the case are those that it is made with
 pub counts-in : (counts : Counts) (rows : List ℕ) → countsOf (caseIn counts rows) ≡ counts
@@ -47,16 +48,18 @@ module _ (counts : Counts) (rows : List ℕ) where
   unfolding shapeRule caseIn
   shape-rule-in s h = getD-made (shapeIn rows) (counts .shapes) s _ h
 
--- A case that keeps the limits fits its tables
-pub limited-fit : {c : Case} {counts : Counts} → countsOf c ≡ counts → Limited c → Fit counts
-unfolding countsOf wordsOf
-limited-fit {c} e l = rw (← e) (record {
-  wide = omega (arith, l);
-  narrow = omega arith;
-  pairs-fit = omega (arith, l);
-  pairs-few = mul-le-mul (l .shapes-limited) (l .nodes-limited);
-  edges-fit = omega (arith, l);
-  paths-fit = omega (arith, l);
-  shapes-fit = omega (arith, l);
-  targets-fit = omega (arith, l);
-})
+-- A case that keeps a profile's limits fits its tables
+pub limited-fit : {profile : ℕ} {c : Case} {counts : Counts} → countsOf c ≡ counts → Limited profile c → Fit counts
+unfolding countsOf
+limited-fit {profile} {c} e l =
+    let words = words-fit profile (countsOf c) (l .nodes-limited) (l .shapes-limited) in
+    rw (← e) (record {
+      wide = words .wide;
+      narrow = words .narrow;
+      pairs-fit = words .pairs-fit;
+      pairs-few = le-trans (mul-le-mul (l .shapes-limited) (l .nodes-limited)) (limit-product profile);
+      edges-fit = omega (arith, l);
+      paths-fit = omega (arith, l);
+      shapes-fit = omega (arith, l, shapes-at-most profile);
+      targets-fit = omega (arith, l);
+    })

@@ -8,6 +8,8 @@ use lib.ListN.{length, getD, drop}
 use lib.Dec.{eqb, leb, ltb}
 use borrow.Author.Tests.{leb-true, eqb-true, ltb-false}
 use Rattle.fixpoint.proofs.Lists.{by-test}
+use Rattle.cases.specs.declared.answers.Heading.{Heading}
+use Rattle.cases.specs.declared.answers.Heading.the-variants.{Is as HeadingIs, Refused as HeadingRefused}
 use Rattle.cases.specs.declared.answers.Step.{Step}
 use Rattle.cases.specs.declared.answers.Step.the-variants.{Is, Refused as StepRefused}
 use Rattle.cases.specs.declared.answers.Taken.{Taken}
@@ -27,13 +29,14 @@ use Rattle.cases.specs.Faults.{inOrder, withinLimit, nodesKnown, pathsEa
 use Rattle.cases.specs.Format.{formatOf, groupOf, widthBy, takenOf, operandsBy, operandsOf, missing, shapeRuleOf, commandAt}
 use Rattle.cases.specs.Parts.{partFormatOf, openUnless, opening, ruleHead, atMostHead, wholeHead, headBy, headAt}
 use Rattle.cases.specs.Parts.{Part, Named, Plain, Around, Joining, PartRead, PartFault, PartIs, andThen, opened, partAt, depthLimit, size, innerSize, freshCount}
-use Rattle.cases.specs.Reading.{unless, judged, stepAt, Progress, start, countsSoFar, add, Entry, Shape, Other, pass, Found, Fault, Good}
+use Rattle.cases.specs.Reading.{headingOf, unless, judged, stepAt, Progress, start, countsSoFar, add, Entry, Shape, Other, pass, Found, Fault, Good}
 use Rattle.cases.specs.Reading.{entryOf, plainFound, partFound, foundUnless, nestedFound, roomFor, roomy, roomyFound, parkable, laidFound, foundAt}
-use Rattle.cases.specs.Reading.{afterEnd, Walked, refused, finish, isEnd, isEndEntry, stepped, walk, walked, expanded, outcome}
+use Rattle.cases.specs.Reading.{afterEnd, Walked, refused, finish, isEnd, isEndEntry, stepped, walk, walkedFrom, walked, profileOf, expanded, outcome}
 use Rattle.cases.specs.Sound.{Limited}
 use Rattle.cases.proofs.Expansion.{length-expansion, freshCount-more}
+use Rattle.cases.proofs.Profiles.{shapes-at-most}
 use Rattle.cases.proofs.Sound.{length-snoc, order-first, last-pass, outcome-limited}
-use Rattle.cases.proofs.Steps.{ofGroup, CommandShows, EntryShows, Shows, GoodShows, found-shows}
+use Rattle.cases.proofs.Steps.{ofGroup, CommandShows, EntryShows, Shows, GoodShows, found-shows, HeadingShows, heading-shows}
 
 -- ---- The widths of the two formats
 
@@ -149,15 +152,15 @@ missing-some : (o : Operands) → eqb (missing o) 0 ≡ false → 0 < missing o
 missing-some (Complete row) h = absurd (false≢true (sym h))
 missing-some Cut h = omega arith
 
-step-takes : (last : ℕ) (k : Counts) (s : List ℕ) → StepTakes (stepAt last k s)
+step-takes : (profile last : ℕ) (k : Counts) (s : List ℕ) → StepTakes (stepAt profile last k s)
 unfolding stepAt judged takenOf StepTakes
-step-takes last k s =
+step-takes profile last k s =
     let g = groupOf (getD s 0 0) in
     let command = commandAt s in
-    step-unless (ltb 0 g) 1 _ (λ _. omega arith)
+    step-unless (ltb g 7) 1 _ (λ _. omega arith)
     (step-unless (inOrder last g) 2 _ (λ _. omega arith)
     (step-unless (eqb (missing (operandsOf s)) 0) (missing (operandsOf s)) _ (missing-some (operandsOf s))
-    (step-unless (withinLimit k command) 4 _ (λ _. omega arith)
+    (step-unless (withinLimit profile k command) 4 _ (λ _. omega arith)
     (step-unless (nodesKnown k command) 5 _ (λ _. omega arith)
     (step-unless (pathsEarlier k command) 6 _ (λ _. omega arith)
     (step-unless (leastPositive command) 7 _ (λ _. omega arith)
@@ -166,7 +169,7 @@ step-takes last k s =
 -- ---- What is found: 6 bytes, or 10 for a shape and for each fresh one that it makes
 
 -- (a shape command adds a part)
-unfoldable most : Entry → ℕ
+unfoldable pub most : Entry → ℕ
 most (Shape x) = 10 * suc (innerSize x)
 most (Other (Nodes n)) = 6
 most (Other (EdgeCommand e)) = 6
@@ -175,7 +178,7 @@ most (Other (ShapeCommand r)) = 0
 most (Other (TargetCommand t)) = 6
 most (Other End) = 6
 
-unfoldable FoundTakes : Found → Type 0
+unfoldable pub FoundTakes : Found → Type 0
 FoundTakes (Fault n) = 0 < n
 FoundTakes (Good e taken) = taken .width ≤ most e
 
@@ -216,7 +219,7 @@ nested-takes p part =
     let nodes = p .case .nodes in
     let paths = length (p .case .paths) in
     found-unless (inOrder (p .last) 4) 2 _ (omega arith)
-    (found-unless (ltb (length (p .written)) shapeLimit) 4 _ (omega arith)
+    (found-unless (ltb (length (p .written)) (shapeLimit (p .profile))) 4 _ (omega arith)
     (part-found (partAt depthLimit nodes paths part 1) (part-takes nodes paths part depthLimit 1)))
 
 roomy-takes : (p : Progress) (f : Found) → FoundTakes f → FoundTakes (roomy p f)
@@ -229,25 +232,25 @@ unfolding FoundTakes
 laid-takes edges (Fault n) h = h
 laid-takes edges (Good e taken) h = found-unless (parkable edges e) 20 (Good e taken) (omega arith) h
 
-found-takes : (p : Progress) (part : List ℕ) → FoundTakes (foundAt p part)
+pub found-takes : (p : Progress) (part : List ℕ) → FoundTakes (foundAt p part)
 unfolding foundAt roomyFound
 found-takes p part =
-    let step = stepAt (p .last) (countsSoFar p) part in
+    let step = stepAt (p .profile) (p .last) (countsSoFar p) part in
     let found : Found = cond (eqb (getD part 0 0) 0x28) (nestedFound p part) (plainFound step) in
     laid-takes (p .case .edges) (roomy p found) (roomy-takes p found
     (by-test (eqb (getD part 0 0) 0x28)
     (λ e. rw e (nested-takes p part))
-    (λ e. rw e (plain-takes step (step-takes (p .last) (countsSoFar p) part)))))
+    (λ e. rw e (plain-takes step (step-takes (p .profile) (p .last) (countsSoFar p) part)))))
 
 -- ---- The walk
 
--- the most bytes of what has been read, with 6 for the nodes command, which comes first
+-- the most bytes of what has been read, with 8 for the profile and the nodes command, which come first
 unfoldable reach : Progress → ℕ
 reach p =
-    6 + 6 * (length (p .case .edges) + length (p .case .paths) + length (p .case .targets)) + 10 * (length (p .written) + freshCount (p .written))
+    8 + 6 * (length (p .case .edges) + length (p .case .paths) + length (p .case .targets)) + 10 * (length (p .written) + freshCount (p .written))
 
 record Reached (at : ℕ) (p : Progress) : Type 0 where
-  first : p .last ≡ 0 → at ≡ 0
+  first : p .last ≡ 0 → at ≤ 2
   within : at ≤ reach p
 
 command-reach : (p : Progress) (part : List ℕ) (at g w : ℕ) (command : Command) → CommandShows p part g command → inOrder (p .last) g ≡ true
@@ -315,15 +318,22 @@ module _ (s : List ℕ) where
       (λ e. rw (e, walk) (step-ended (walk fuel s) (walk-ended fuel) at p (foundAt p (drop at s)) (found-shows p (drop at s)) (found-takes p (drop at s)) k))
       (λ e. rw (e, walk) (refused-ended 3 at (omega arith)))
 
-start-reached : Reached 0 start
-start-reached = record { first = λ z. refl; within = omega arith }
+start-reached : (profile width : ℕ) → width ≤ 2 → Reached width (start profile)
+unfolding reach start
+start-reached profile width h = record { first = λ z. h; within = omega arith }
+
+from-ended : (s : List ℕ) (h : Heading) → HeadingShows h → Ended s (walkedFrom s h)
+unfolding walkedFrom HeadingShows
+from-ended s (HeadingRefused n) i = refused-ended s n 0 (i .1)
+from-ended s (HeadingIs profile width) i = walk-ended s (suc (length s)) width (start profile) (start-reached profile width (i .1))
 
 -- with the limits on what has been read, 1,024 edges, 16 paths, 32 shapes and 256 targets
-limited-reach : (p : Progress) → Limited (expanded p) → 1 + reach p ≤ 8192
+limited-reach : (profile : ℕ) (p : Progress) → Limited profile (expanded p) → 1 + reach p ≤ 8192
 unfolding expanded reach
-limited-reach p l = omega (arith, l .edges-limited, l .paths-limited, l .shapes-limited, l .targets-limited, length-expansion (p .written))
+limited-reach profile p l =
+    omega (arith, l .edges-limited, l .paths-limited, l .shapes-limited, shapes-at-most profile, l .targets-limited, length-expansion (p .written))
 
 pub outcome-length : (s : List ℕ) → outcome s .refusal .number ≡ 0 → length s ≤ 8192
 unfolding outcome walked
 outcome-length s h =
-    omega (arith, walk-ended s (suc (length s)) 0 start start-reached .ended h, limited-reach (walked s .read) (outcome-limited s))
+    omega (arith, from-ended s (headingOf s) (heading-shows s) .ended h, limited-reach (profileOf s) (walked s .read) (outcome-limited s))

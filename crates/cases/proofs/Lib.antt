@@ -1,5 +1,6 @@
 -- Laws of the commands, of what reading gives, and of the case in a table of rows.
 pub mod Formats
+pub mod Profiles
 pub mod Steps
 pub mod Sound
 pub mod Recording
@@ -10,3 +11,4 @@ pub mod Expansion
 pub mod Opening
 pub mod Operands
 pub mod Encoding
+pub mod Alike

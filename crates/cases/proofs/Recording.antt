@@ -1,9 +1,8 @@
 -- Every edge of a case that reading gives is laid by an 02, or parked by a 03 behind one. Document 02, point 4. Assumes nothing.
-use Prim.Native.Nat.{ℕ, suc}
+use Prim.Native.Nat.{ℕ}
 use mathlib.Core.Path.{_≡_, refl}
 use mathlib.Core.Bool.{Bool, true, not, _&&_, _||_, false≢true, and-eq-true-iff}
 use mathlib.Core.List.{List, [], _∷_, _++_, append-assoc, append-nil}
-use lib.ListN.{length}
 use lib.Dec.{eqb}
 use Rattle.fixpoint.proofs.Lists.{by-test}
 use Rattle.cases.specs.declared.command.Command.{Command}
@@ -12,9 +11,9 @@ use Rattle.cases.specs.declared.command.Command.the-variants.{Edge as Ed
 use Rattle.cases.specs.declared.command.Edge.{Edge}
 use Rattle.cases.specs.Case.{emptyCase}
 use Rattle.cases.specs.Faults.{laid, edgeThere}
-use Rattle.cases.specs.Reading.{Progress, start, add, Entry, Shape, Other, pass, afterEnd, refused, finish, walked, expanded, outcome}
+use Rattle.cases.specs.Reading.{Progress, start, add, Entry, Shape, Other, pass, afterEnd, refused, finish, walked, expanded, profileOf, outcome}
 use Rattle.cases.specs.Sound.{recorded, Recorded}
-use Rattle.cases.proofs.Steps.{edgeCoded, EntryShows, Admitted, walk-keeps}
+use Rattle.cases.proofs.Steps.{edgeCoded, EntryShows, Admitted, walked-keeps}
 
 -- an edge behind others is an 02, or a 03 of one of them
 unfoldable pub recordedAt : List Edge → Edge → Bool
@@ -70,9 +69,9 @@ unfolding EntryShows pass
 entry-recorded p part at g (Shape x) h k o = record { edges = o .edges }
 entry-recorded p part at g (Other command) h k o = command-recorded p at g command (h .coded) (k .there) o
 
-start-recorded : RecordedSoFar start
+start-recorded : (profile : ℕ) → RecordedSoFar (start profile)
 unfolding start emptyCase recorded
-start-recorded = record { edges = refl }
+start-recorded profile = record { edges = refl }
 
 edges-expanded : (p : Progress) → RecordedSoFar p → Recorded (expanded p)
 unfolding expanded
@@ -81,8 +80,8 @@ edges-expanded p o = record { edges-recorded = o .edges }
 pub outcome-recorded : (s : List ℕ) → Recorded (outcome s .case)
 unfolding outcome walked finish refused
 outcome-recorded s =
-    walk-keeps RecordedSoFar (λ w. Recorded (expanded (w .read))) s
-    (λ n at k. edges-expanded start start-recorded)
-    (λ end p k. by-test (eqb (afterEnd s end p .number) 0) (λ e. rw e (edges-expanded p k)) (λ e. rw e (edges-expanded start start-recorded)))
+    walked-keeps RecordedSoFar (λ w. Recorded (expanded (w .read))) s
+    (λ n at k. edges-expanded (start 0) (start-recorded 0))
+    (λ end p k. by-test (eqb (afterEnd s end p .number) 0) (λ e. rw e (edges-expanded p k)) (λ e. rw e (edges-expanded (start 0) (start-recorded 0))))
     (λ at p e taken h k o. entry-recorded p _ at (taken .group) e (h .entry) k o)
-    (suc (length s)) 0 start start-recorded
+    (λ h. start-recorded (profileOf s))

@@ -1,13 +1,13 @@
 -- The numbers of reading's refusals. Assumes nothing.
-use Prim.Native.Nat.{ℕ, suc}
+use Prim.Native.Nat.{ℕ}
 use mathlib.Core.Path.{_≡_, refl}
 use mathlib.Core.Bool.{true}
 use mathlib.Core.List.{List, [], _∷_}
 use lib.ListN.{length}
 use lib.Dec.{eqb, ltb}
 use Rattle.fixpoint.proofs.Lists.{by-test}
-use Rattle.cases.specs.Reading.{Note, Progress, start, unknownShape, afterEnd, refused, finish, walked, outcome, isReadingNumber}
-use Rattle.cases.proofs.Steps.{walk-keeps}
+use Rattle.cases.specs.Reading.{Note, Progress, unknownShape, afterEnd, refused, finish, walked, outcome, isReadingNumber}
+use Rattle.cases.proofs.Steps.{walked-keeps}
 
 unknown-number : (shapes : ℕ) (l : List Note) → isReadingNumber (unknownShape shapes l .number) ≡ true
 unfolding unknownShape
@@ -25,6 +25,6 @@ finish-number s end p = by-test (eqb (afterEnd s end p .number) 0) (λ e. rw e r
 pub reading-number : (s : List ℕ) → isReadingNumber (outcome s .refusal .number) ≡ true
 unfolding outcome walked refused
 reading-number s =
-    walk-keeps (λ p. Unit {0}) (λ w. isReadingNumber (w .refusal .number) ≡ true) s
+    walked-keeps (λ p. Unit {0}) (λ w. isReadingNumber (w .refusal .number) ≡ true) s
     (λ n at h. h) (λ end p k. finish-number s end p) (λ at p e taken h r k. k)
-    (suc (length s)) 0 start tt
+    (λ h. tt)

@@ -20,15 +20,15 @@ use Rattle.cases.specs.declared.command.Command.the-variants.{Edge as Ed
 use Rattle.cases.specs.declared.command.PathRule.{PathRule}
 use Rattle.cases.specs.declared.command.PathRule.the-variants.{Union}
 use Rattle.cases.specs.Case.{Case, emptyCase, pathRule}
-use Rattle.cases.specs.Counts.{nodeLimit, edgeLimit, pathLimit, shapeLimit, targetLimit}
+use Rattle.cases.specs.Counts.{isProfile, nodeLimit, edgeLimit, pathLimit, shapeLimit, targetLimit}
 use Rattle.cases.specs.Faults.{inOrder, shapeNodesKnown, pathPathsEarlier, shapePathsEarlier, shapeLeastPositive}
 use Rattle.cases.specs.Parts.{Part, names, rules, freshRules, expansion}
 use Rattle.cases.specs.Reading.{Note, Progress, start, countsSoFar, add, shapesNamed, namedAt, Entry, Shape, Other, pass}
-use Rattle.cases.specs.Reading.{unknownShape, afterEnd, refused, finish, walked, expanded, outcome}
+use Rattle.cases.specs.Reading.{unknownShape, afterEnd, refused, finish, expanded, profileOf, outcome}
 use Rattle.cases.specs.Sound.{Sound, Limited}
 use Rattle.cases.proofs.Expansion.{ruled, expansion-passes, expansion-below, length-expansion}
 use Rattle.cases.proofs.Opening.{shapeSound, sound-blind}
-use Rattle.cases.proofs.Steps.{ofGroup, CommandShows, EntryShows, Shows, walk-keeps, Admitted}
+use Rattle.cases.proofs.Steps.{ofGroup, CommandShows, EntryShows, Shows, profile-known, walked-keeps, Admitted}
 
 -- ---- What a case keeps as it grows: refusals 4 to 7, list by list
 
@@ -84,18 +84,18 @@ unfoldable pub targetSound : ℕ → Target → Bool
 targetSound nodes t = ltb (t .node .0) nodes
 
 -- of what has been read: the shapes stand as parts, and with those that they make are within the limit
-pub record CaseKept (c : Case) (written : List Part) : Type 0 where
-  pub nodes : c .nodes ≤ nodeLimit
+pub record CaseKept (profile : ℕ) (c : Case) (written : List Part) : Type 0 where
+  pub nodes : c .nodes ≤ nodeLimit profile
   pub edges : Kept edgeLimit (edgeSound (c .nodes)) (c .edges)
   pub paths : PathsKept (c .paths)
   pub shapes : all written (ruled (shapeSound (c .nodes) (length (c .paths)))) ≡ true
-  pub few : length (expansion written) ≤ shapeLimit
+  pub few : length (expansion written) ≤ shapeLimit profile
   pub targets : Kept targetLimit (targetSound (c .nodes)) (c .targets)
 
 -- while every list is empty, any number of nodes within the limit will do
-unbegun-kept : (n : ℕ) → n ≤ nodeLimit → CaseKept (add emptyCase (Nodes n)) []
+unbegun-kept : (profile n : ℕ) → n ≤ nodeLimit profile → CaseKept profile (add emptyCase (Nodes n)) []
 unfolding add emptyCase all expansion rules freshRules
-unbegun-kept n h =
+unbegun-kept profile n h =
     record {
       nodes = h;
       edges = kept-none;
@@ -148,13 +148,14 @@ named-more n p at g (Other command) k h =
 
 -- ---- What is promised of a case
 
-pub record Fitting (c : Case) : Type 0 where
+pub record Fitting (profile : ℕ) (c : Case) : Type 0 where
   pub sound : Sound c
-  pub limited : Limited c
+  pub limited : Limited profile c
 
-fitting : (p : Progress) → CaseKept (p .case) (p .written) → NamedBelow (length (p .written)) p → Fitting (expanded p)
+fitting : (p : Progress) → isProfile (p .profile) ≡ true → CaseKept (p .profile) (p .case) (p .written) → NamedBelow (length (p .written)) p
+    → Fitting (p .profile) (expanded p)
 unfolding expanded below edgeSound shapeSound targetSound pathRule
-fitting p k o =
+fitting p known-profile k o =
     let n = p .case .nodes in
     let m = length (p .case .paths) in
     let l = expansion (p .written) in
@@ -176,6 +177,7 @@ fitting p k o =
           };
       limited =
           record {
+            known = known-profile;
             nodes-limited = k .nodes;
             edges-limited = k .edges .limited;
             paths-limited = k .paths .limited;
@@ -189,7 +191,8 @@ fitting p k o =
 -- Two numbers are what others are tested against: of the nodes, and of the paths. The order lets the one change only while nothing else
 -- has been read, and the other only while there are no shapes; so what was tested once stays so.
 pub record SoundSoFar (p : Progress) : Type 0 where
-  pub kept : CaseKept (p .case) (p .written)
+  pub known : isProfile (p .profile) ≡ true
+  pub kept : CaseKept (p .profile) (p .case) (p .written)
   pub named : (n : ℕ) → all (p .named) (λ r. ltb (r .shape) n) ≡ true → NamedBelow n p
   pub unbegun : p .last ≡ 0 → p .case ≡ emptyCase
   pub unshaped : p .last ≤ 3 → p .written ≡ []
@@ -204,11 +207,11 @@ order-ascends last g h =
     (λ e. by-test (eqb g 1) (λ f. absurd (false≢true (rw (e, f) at h))) (λ f. leb-true last g (rw (e, f) at h)))
 
 command-kept : (p : Progress) (part : List ℕ) (g : ℕ) (command : Command) → SoundSoFar p → inOrder (p .last) g ≡ true → CommandShows p part g command
-    → CaseKept (add (p .case) command) (p .written)
+    → CaseKept (p .profile) (add (p .case) command) (p .written)
 unfolding countsSoFar ofGroup add edgeSound targetSound all
 command-kept p part g (Nodes n) k order h =
     let first : p .last ≡ 0 = order-first (p .last) (rw (eqb-true g 1 (h .grouped)) at order) in
-    rw (k .unbegun first, k .unshaped (omega arith)) (unbegun-kept n (leb-true n nodeLimit (h .limit)))
+    rw (k .unbegun first, k .unshaped (omega arith)) (unbegun-kept (p .profile) n (leb-true n (nodeLimit (p .profile)) (h .limit)))
 command-kept p part g (EdgeCommand e) k order h =
     let o = k .kept in
     record { nodes = o .nodes; edges = kept-more e (o .edges) (h .limit) (h .nodes); paths = o .paths; shapes = o .shapes; few = o .few; targets = o .targets }
@@ -232,7 +235,7 @@ command-kept p part g (TargetCommand t) k order h =
 command-kept p part g End k order h = k .kept
 
 entry-kept : (p : Progress) (part : List ℕ) (at g : ℕ) (e : Entry) → SoundSoFar p → inOrder (p .last) g ≡ true → EntryShows p part g e → Admitted p e
-    → CaseKept (pass p at g e .case) (pass p at g e .written)
+    → CaseKept (p .profile) (pass p at g e .case) (pass p at g e .written)
 unfolding pass EntryShows
 entry-kept p part at g (Shape x) k order h admitted =
     let o = k .kept in
@@ -241,7 +244,7 @@ entry-kept p part at g (Shape x) k order h admitted =
       edges = o .edges;
       paths = o .paths;
       shapes = all-snoc (p .written) x (ruled (shapeSound (p .case .nodes) (length (p .case .paths)))) (o .shapes) (h .sound);
-      few = leb-true (length (expansion (p .written ++ (x ∷ [])))) shapeLimit (admitted .room);
+      few = leb-true (length (expansion (p .written ++ (x ∷ [])))) (shapeLimit (p .profile)) (admitted .room);
       targets = o .targets;
     }
 entry-kept p part at g (Other command) k order h admitted = command-kept p part g command k order h
@@ -251,6 +254,11 @@ unshaped-pass : (p : Progress) (part : List ℕ) (at g : ℕ) (e : Entry) → So
 unfolding pass EntryShows
 unshaped-pass p part at g (Shape x) k order h b = absurd (omega (arith, h .grouped))
 unshaped-pass p part at g (Other command) k order h b = k .unshaped (omega (arith, order-ascends (p .last) g order))
+
+pub profile-pass : (p : Progress) (at g : ℕ) (e : Entry) → pass p at g e .profile ≡ p .profile
+unfolding pass
+profile-pass p at g (Shape x) = refl
+profile-pass p at g (Other command) = refl
 
 pub last-pass : (p : Progress) (at g : ℕ) (e : Entry) → pass p at g e .last ≡ g
 unfolding pass
@@ -262,7 +270,8 @@ pub sound-pass : (s : List ℕ) (at : ℕ) (p : Progress) (e : Entry) (taken : T
 sound-pass s at p e taken h admitted k =
     let g = taken .group in
     record {
-      kept = entry-kept p (drop at s) at g e k (h .ordered) (h .entry) admitted;
+      known = rw (profile-pass p at g e) (k .known);
+      kept = rw (profile-pass p at g e) (entry-kept p (drop at s) at g e k (h .ordered) (h .entry) admitted);
       named = λ n. named-more n p at g e (k .named);
       unbegun = λ z. absurd (omega (arith, h .known, last-pass p at g e));
       unshaped = λ b. unshaped-pass p (drop at s) at g e k (h .ordered) (h .entry) (omega (arith, last-pass p at g e));
@@ -270,13 +279,20 @@ sound-pass s at p e taken h admitted k =
 
 -- ---- The walk: a refusal gives the empty case, and the end the case so far, all of whose shape operands are known by then
 
-pub start-sound : SoundSoFar start
+pub start-sound : (profile : ℕ) → isProfile profile ≡ true → SoundSoFar (start profile)
 unfolding start emptyCase add all
-start-sound = record { kept = unbegun-kept 0 (omega arith); named = λ n h. record { shapes = refl; targets = refl }; unbegun = λ e. refl; unshaped = λ h. refl }
+start-sound profile h =
+    record {
+      known = h;
+      kept = unbegun-kept profile 0 (omega arith);
+      named = λ n h. record { shapes = refl; targets = refl };
+      unbegun = λ e. refl;
+      unshaped = λ h. refl;
+    }
 
-start-fitting : Fitting (expanded start)
+start-fitting : (profile : ℕ) → isProfile profile ≡ true → Fitting profile (expanded (start profile))
 unfolding start emptyCase all
-start-fitting = fitting start (start-sound .kept) (record { shapes = refl; targets = refl })
+start-fitting profile h = fitting (start profile) h (start-sound profile h .kept) (record { shapes = refl; targets = refl })
 
 unknownShape-none : (n : ℕ) (l : List Note) → unknownShape n l .number ≡ 0 → all l (λ r. ltb (r .shape) n) ≡ true
 unfolding unknownShape all
@@ -293,22 +309,35 @@ afterEnd-none s end p h =
     (λ e. absurd (let z : _≡_ {A = ℕ} 8 0 = rw e at h in omega arith))
     (λ e. unknownShape-none (length (p .written)) (p .named) (rw e at h))
 
-finish-fitting : (s : List ℕ) (end : ℕ) (p : Progress) → SoundSoFar p → Fitting (expanded (finish s end p .read))
-unfolding finish
-finish-fitting s end p k =
-    by-test (eqb (afterEnd s end p .number) 0)
-    (λ e. rw e (fitting p (k .kept) (k .named (length (p .written)) (afterEnd-none s end p (eqb-true (afterEnd s end p .number) 0 e)))))
-    (λ e. rw e start-fitting)
+-- sound so far, under the input's profile
+record SoundUnder (profile : ℕ) (p : Progress) : Type 0 where
+  sound : SoundSoFar p
+  under : p .profile ≡ profile
 
-outcome-fitting : (s : List ℕ) → Fitting (outcome s .case)
-unfolding outcome walked refused
-outcome-fitting s =
-    walk-keeps SoundSoFar (λ w. Fitting (expanded (w .read))) s
-    (λ n at h. start-fitting) (λ end p. finish-fitting s end p) (λ at p e taken h r k. sound-pass s at p e taken h r k)
-    (suc (length s)) 0 start start-sound
+module _ (s : List ℕ) where
+  -- nothing is left of a refused input, which fits under every profile
+  refused-fitting : Fitting (profileOf s) (expanded (start 0))
+  unfolding expanded start
+  refused-fitting = start-fitting (profileOf s) (profile-known s)
+
+  finish-fitting : (end : ℕ) (p : Progress) → SoundUnder (profileOf s) p → Fitting (profileOf s) (expanded (finish s end p .read))
+  unfolding finish
+  finish-fitting end p k =
+      let o = k .sound in
+      by-test (eqb (afterEnd s end p .number) 0)
+      (λ e. rw (e, ← k .under) (fitting p (o .known) (o .kept) (o .named (length (p .written)) (afterEnd-none s end p (eqb-true (afterEnd s end p .number) 0 e)))))
+      (λ e. rw e refused-fitting)
+
+  outcome-fitting : Fitting (profileOf s) (outcome s .case)
+  unfolding outcome refused start
+  outcome-fitting =
+      walked-keeps (SoundUnder (profileOf s)) (λ w. Fitting (profileOf s) (expanded (w .read))) s
+      (λ n at h. refused-fitting) finish-fitting
+      (λ at p e taken h r k. record { sound = sound-pass s at p e taken h r (k .sound); under = profile-pass p at (taken .group) e ∙ k .under })
+      (λ h. record { sound = start-sound (profileOf s) h; under = refl })
 
 pub outcome-sound : (s : List ℕ) → Sound (outcome s .case)
 outcome-sound s = outcome-fitting s .sound
 
-pub outcome-limited : (s : List ℕ) → Limited (outcome s .case)
+pub outcome-limited : (s : List ℕ) → Limited (profileOf s) (outcome s .case)
 outcome-limited s = outcome-fitting s .limited

@@ -6,9 +6,11 @@ use mathlib.Core.Bool.{Bool, true, false, cond, _||_}
 use mathlib.Core.List.{List}
 use lib.ListN.{length, getD, drop}
 use lib.Dec.{eqb, ltb}
-use borrow.Author.Tests.{leb-true, eqb-true}
+use borrow.Author.Tests.{leb-true, eqb-true, eqb-false}
 use Rattle.fixpoint.specs.Lists.{all}
-use Rattle.fixpoint.proofs.Lists.{tests, by-test}
+use Rattle.fixpoint.proofs.Lists.{by-test}
+use Rattle.cases.specs.declared.answers.Heading.{Heading}
+use Rattle.cases.specs.declared.answers.Heading.the-variants.{Is as HeadingIs, Refused as HeadingRefused}
 use Rattle.cases.specs.declared.answers.Step.{Step}
 use Rattle.cases.specs.declared.answers.Step.the-variants.{Is, Refused}
 use Rattle.cases.specs.declared.answers.Taken.{Taken}
@@ -21,16 +23,23 @@ use Rattle.cases.specs.declared.counts.Counts.{Counts}
 use Rattle.cases.specs.declared.format.Format.{Format}
 use Rattle.cases.specs.declared.format.Operands.{Operands}
 use Rattle.cases.specs.declared.format.Operands.the-variants.{Complete, Cut}
-use Rattle.cases.specs.Counts.{shapeLimit}
+use Rattle.cases.specs.Counts.{isProfile, shapeLimit}
 use Rattle.cases.specs.Encoding.{pathByte, shapeByte}
 use Rattle.cases.specs.Faults.{inOrder, withinLimit, nodesKnown, pathsEarlier, leastPositive, edgeThere}
 use Rattle.cases.specs.Format.{formatOf, groupOf, widthOf, takenOf, numberAt, rowOf, complete, operandsOf, operandsBy, missing}
 use Rattle.cases.specs.Format.{edgeOf, pathRuleOf, shapeRuleOf, targetOf, commandOf, commandAt}
 use Rattle.cases.specs.Parts.{Part, PartRead, PartFault, PartIs, partAt, depthLimit}
-use Rattle.cases.specs.Reading.{unless, judged, stepAt, Progress, countsSoFar, Entry, Shape, Other, pass, Found, Fault, Good}
-use Rattle.cases.specs.Reading.{entryOf, plainFound, partFound, nestedFound, roomFor, roomy, roomyFound, parkable, laidFound, foundAt, Walked, refused, finish, isEndEntry, stepped, walk, isReadingNumber}
+use Rattle.cases.specs.Reading.{headed, headingOf, headingProfile, unless, judged, stepAt, Progress, start, countsSoFar, Entry, Shape, Other, pass, Found, Fault, Good}
+use Rattle.cases.specs.Reading.{entryOf, plainFound, partFound, nestedFound, roomFor, roomy, roomyFound, parkable, laidFound, foundAt, Walked, refused, finish, isEndEntry, stepped, walk, walkedFrom, walked, profileOf, isReadingNumber}
 use Rattle.cases.proofs.Expansion.{ruled}
 use Rattle.cases.proofs.Opening.{shapeSound, bytes-at, ReadShows, part-shows}
+
+-- a command in order is of a group behind 00's
+pub order-some : (last g : ℕ) → inOrder last g ≡ true → 0 < g
+order-some last g h =
+    by-test (eqb last 0)
+    (λ e. omega (arith, eqb-true g 1 (rw e at h)))
+    (λ e. by-test (eqb g 1) (λ f. omega (arith, eqb-true g 1 f)) (λ f. omega (arith, eqb-false last 0 e, leb-true last g (rw (e, f) at h))))
 
 -- ---- What a command shows that is found
 
@@ -64,7 +73,7 @@ edgeCoded End = true
 -- 2 and 4 to 7 of a command
 pub record CommandShows (p : Progress) (part : List ℕ) (g : ℕ) (command : Command) : Type 0 where
   pub grouped : ofGroup g command ≡ true
-  pub limit : withinLimit (countsSoFar p) command ≡ true
+  pub limit : withinLimit (p .profile) (countsSoFar p) command ≡ true
   pub nodes : nodesKnown (countsSoFar p) command ≡ true
   pub paths : pathsEarlier (countsSoFar p) command ≡ true
   pub least : leastPositive command ≡ true
@@ -74,7 +83,7 @@ pub record CommandShows (p : Progress) (part : List ℕ) (g : ℕ) (command : Co
 -- of a shape, as a part
 pub record ShapeShows (p : Progress) (part : List ℕ) (g : ℕ) (x : Part) : Type 0 where
   pub grouped : g ≡ 4
-  pub limit : ltb (length (p .written)) shapeLimit ≡ true
+  pub limit : ltb (length (p .written)) (shapeLimit (p .profile)) ≡ true
   pub sound : ruled (shapeSound (p .case .nodes) (length (p .case .paths))) x ≡ true
   pub bytes : all part (λ b. ltb b 256) ≡ true → ruled shapeByte x ≡ true
 
@@ -97,21 +106,20 @@ FoundShows p part (Good e taken) = Shows p part e taken
 -- ---- A command but 28
 
 -- what it is made of, and the tests that it passed
-pub record Shown (last : ℕ) (k : Counts) (part : List ℕ) (command : Command) (row : Row) (taken : Taken) : Type 0 where
+pub record Shown (profile last : ℕ) (k : Counts) (part : List ℕ) (command : Command) (row : Row) (taken : Taken) : Type 0 where
   pub command-is : command ≡ commandAt part
   pub row-is : row ≡ rowOf part
   pub taken-is : taken ≡ takenOf (getD part 0 0)
-  pub known : ltb 0 (groupOf (getD part 0 0)) ≡ true
   pub ordered : inOrder last (groupOf (getD part 0 0)) ≡ true
   pub whole : widthOf (getD part 0 0) ≤ length part
-  pub within : withinLimit k command ≡ true
+  pub within : withinLimit profile k command ≡ true
   pub nodes-known : nodesKnown k command ≡ true
   pub paths-earlier : pathsEarlier k command ≡ true
   pub least-positive : leastPositive command ≡ true
 
-unfoldable pub StepShows : ℕ → Counts → List ℕ → Step → Type 0
-StepShows last k part (Refused n) = isReadingNumber n ≡ true
-StepShows last k part (Is command row taken) = Shown last k part command row taken
+unfoldable pub StepShows : ℕ → ℕ → Counts → List ℕ → Step → Type 0
+StepShows profile last k part (Refused n) = isReadingNumber n ≡ true
+StepShows profile last k part (Is command row taken) = Shown profile last k part command row taken
 
 -- operands are missing where the command isn't whole
 missing-none : (s : List ℕ) → eqb (missing (operandsOf s)) 0 ≡ complete s
@@ -122,22 +130,22 @@ missing-number : (o : Operands) → isReadingNumber (missing o) ≡ true
 missing-number (Complete row) = refl
 missing-number Cut = refl
 
-module _ (last : ℕ) (k : Counts) (part : List ℕ) where
-  unless-shows : (ok : Bool) (n : ℕ) (rest : Step) → isReadingNumber n ≡ true → (ok ≡ true → StepShows last k part rest)
-      → StepShows last k part (unless ok n rest)
+module _ (profile last : ℕ) (k : Counts) (part : List ℕ) where
+  unless-shows : (ok : Bool) (n : ℕ) (rest : Step) → isReadingNumber n ≡ true → (ok ≡ true → StepShows profile last k part rest)
+      → StepShows profile last k part (unless ok n rest)
   unfolding StepShows
   unless-shows true n rest r f = f refl
   unless-shows false n rest r f = r
 
-  pub step-shows : StepShows last k part (stepAt last k part)
+  pub step-shows : StepShows profile last k part (stepAt profile last k part)
   unfolding stepAt judged complete StepShows
   step-shows =
       let g = groupOf (getD part 0 0) in
       let command = commandAt part in
-      unless-shows (ltb 0 g) 1 _ refl
+      unless-shows (ltb g 7) 1 _ refl
       (λ known. unless-shows (inOrder last g) 2 _ refl
       (λ ordered. unless-shows (eqb (missing (operandsOf part)) 0) (missing (operandsOf part)) _ (missing-number (operandsOf part))
-      (λ there. unless-shows (withinLimit k command) 4 _ refl
+      (λ there. unless-shows (withinLimit profile k command) 4 _ refl
       (λ within. unless-shows (nodesKnown k command) 5 _ refl
       (λ nodes. unless-shows (pathsEarlier k command) 6 _ refl
       (λ paths. unless-shows (leastPositive command) 7 _ refl
@@ -145,7 +153,6 @@ module _ (last : ℕ) (k : Counts) (part : List ℕ) where
         command-is = refl;
         row-is = refl;
         taken-is = refl;
-        known = known;
         ordered = ordered;
         whole = leb-true _ _ (rw (missing-none part) at there);
         within = within;
@@ -208,13 +215,13 @@ entry-shows p part g (ShapeCommand r) h =
 entry-shows p part g (TargetCommand t) h = h
 entry-shows p part g End h = h
 
-plain-shows : (p : Progress) (part : List ℕ) (o : Step) → StepShows (p .last) (countsSoFar p) part o → FoundShows p part (plainFound o)
+plain-shows : (p : Progress) (part : List ℕ) (o : Step) → StepShows (p .profile) (p .last) (countsSoFar p) part o → FoundShows p part (plainFound o)
 unfolding StepShows FoundShows commandAt takenOf widthOf
 plain-shows p part (Refused n) h = h
 plain-shows p part (Is command row taken) h =
     rw (h .taken-is) (record {
       ordered = h .ordered;
-      known = omega (arith, tests, h .known);
+      known = order-some (p .last) (groupOf (getD part 0 0)) (h .ordered);
       some = omega arith;
       whole = h .whole;
       entry =
@@ -232,7 +239,7 @@ plain-shows p part (Is command row taken) h =
 
 -- ---- A 28
 
-part-read-shows : (p : Progress) (part : List ℕ) (r : PartRead) → inOrder (p .last) 4 ≡ true → ltb (length (p .written)) shapeLimit ≡ true
+part-read-shows : (p : Progress) (part : List ℕ) (r : PartRead) → inOrder (p .last) 4 ≡ true → ltb (length (p .written)) (shapeLimit (p .profile)) ≡ true
     → ReadShows (p .case .nodes) (length (p .case .paths)) part 1 r → FoundShows p part (partFound r)
 unfolding ReadShows FoundShows EntryShows
 part-read-shows p part (PartFault n) ordered limit h = h
@@ -252,7 +259,7 @@ nested-shows p part =
     let paths = length (p .case .paths) in
     by-test (inOrder (p .last) 4)
     (λ ordered. rw ordered
-    (by-test (ltb (length (p .written)) shapeLimit)
+    (by-test (ltb (length (p .written)) (shapeLimit (p .profile)))
     (λ limit. rw limit (part-read-shows p part (partAt depthLimit nodes paths part 1) ordered limit (part-shows nodes paths part depthLimit 1)))
     (λ limit. rw limit refl)))
     (λ ordered. rw ordered refl)
@@ -278,10 +285,10 @@ admitted-shows p part (Good e taken) h =
 pub found-shows : (p : Progress) (part : List ℕ) → GoodShows p part (foundAt p part)
 unfolding foundAt roomyFound
 found-shows p part =
-    let step = stepAt (p .last) (countsSoFar p) part in
+    let step = stepAt (p .profile) (p .last) (countsSoFar p) part in
     by-test (eqb (getD part 0 0) 0x28)
     (λ e. rw e (admitted-shows p part (nestedFound p part) (nested-shows p part)))
-    (λ e. rw e (admitted-shows p part (plainFound step) (plain-shows p part step (step-shows (p .last) (countsSoFar p) part))))
+    (λ e. rw e (admitted-shows p part (plainFound step) (plain-shows p part step (step-shows (p .profile) (p .last) (countsSoFar p) part))))
 
 -- ---- A command but 03: 20 lets it be, so it is found as before there were parked edges
 
@@ -304,10 +311,10 @@ module _ (part : List ℕ) (unparked : eqb (getD part 0 0) 0x03 ≡ false) (edge
       (λ h. by-test (eqb g 4) (λ i. rw (e, f, h, i) refl)
       (λ i. by-test (eqb g 5) (λ j. rw (e, f, h, i, j) refl) (λ j. rw (e, f, h, i, j) refl)))))
 
-  plain-let-be : (last : ℕ) (k : Counts) (o : Step) → StepShows last k part o → laidFound edges (plainFound o) ≡ plainFound o
+  plain-let-be : (profile last : ℕ) (k : Counts) (o : Step) → StepShows profile last k part o → laidFound edges (plainFound o) ≡ plainFound o
   unfolding StepShows
-  plain-let-be last k (Refused n) h = refl
-  plain-let-be last k (Is command row taken) h = rw (parkable-entry edges command (rw (h .command-is) parks-none))
+  plain-let-be profile last k (Refused n) h = refl
+  plain-let-be profile last k (Is command row taken) h = rw (parkable-entry edges command (rw (h .command-is) parks-none))
 
   part-let-be : (r : PartRead) → laidFound edges (partFound r) ≡ partFound r
   part-let-be (PartFault n) = refl
@@ -318,7 +325,7 @@ module _ (part : List ℕ) (unparked : eqb (getD part 0 0) 0x03 ≡ false) (edge
   nested-let-be p =
       by-test (inOrder (p .last) 4)
       (λ ordered. rw ordered
-      (by-test (ltb (length (p .written)) shapeLimit)
+      (by-test (ltb (length (p .written)) (shapeLimit (p .profile)))
       (λ limit. rw limit (part-let-be (partAt depthLimit (p .case .nodes) (length (p .case .paths)) part 1)))
       (λ limit. rw limit refl)))
       (λ ordered. rw ordered refl)
@@ -332,11 +339,35 @@ pub unparked-found : (p : Progress) (part : List ℕ) → eqb (getD part 0 0) 0x
 unfolding foundAt roomyFound
 unparked-found p part h =
     let edges = p .case .edges in
-    let step = stepAt (p .last) (countsSoFar p) part in
+    let step = stepAt (p .profile) (p .last) (countsSoFar p) part in
     roomy-let-be part h edges p (cond (eqb (getD part 0 0) 0x28) (nestedFound p part) (plainFound step))
     (by-test (eqb (getD part 0 0) 0x28)
     (λ e. rw e (nested-let-be part h edges p))
-    (λ e. rw e (plain-let-be part h edges (p .last) (countsSoFar p) step (step-shows (p .last) (countsSoFar p) part))))
+    (λ e. rw e (plain-let-be part h edges (p .profile) (p .last) (countsSoFar p) step (step-shows (p .profile) (p .last) (countsSoFar p) part))))
+
+-- ---- What the input begins with
+
+unfoldable pub HeadingShows : Heading → Type 0
+HeadingShows (HeadingRefused n) = (isReadingNumber n ≡ true) × (0 < n)
+HeadingShows (HeadingIs profile width) = (isProfile profile ≡ true) × (width ≤ 2)
+
+pub heading-shows : (s : List ℕ) → HeadingShows (headingOf s)
+unfolding headingOf HeadingShows
+heading-shows s =
+    by-test (headed s)
+    (λ e. by-test (complete s)
+    (λ f. by-test (isProfile (rowOf s .1)) (λ g. rw (e, f, g) (g, omega arith)) (λ g. rw (e, f, g) (refl, omega arith)))
+    (λ f. rw (e, f) (refl, omega arith)))
+    (λ e. rw e (refl, omega arith))
+
+shows-known : (h : Heading) → HeadingShows h → isProfile (headingProfile h) ≡ true
+unfolding HeadingShows
+shows-known (HeadingRefused n) i = refl
+shows-known (HeadingIs profile width) i = i .0
+
+pub profile-known : (s : List ℕ) → isProfile (profileOf s) ≡ true
+unfolding profileOf
+profile-known s = shows-known (headingOf s) (heading-shows s)
 
 -- ---- The walk: what every command keeps holds at its end
 
@@ -359,3 +390,13 @@ module _ (P : Progress → Type 0) (Q : Walked → Type 0) (s : List ℕ)
         by-test (ltb at (length s))
         (λ e. rw (e, walk) (step-keeps (walk fuel s) (walk-keeps fuel) at p (foundAt p (drop at s)) (found-shows p (drop at s)) k))
         (λ e. rw (e, walk) (refuses 3 at refl))
+
+    from-keeps : (h : Heading) → HeadingShows h → ((profile width : ℕ) → h ≡ HeadingIs profile width → isProfile profile ≡ true → P (start profile)) → Q (walkedFrom s h)
+    unfolding walkedFrom HeadingShows
+    from-keeps (HeadingRefused n) i k = refuses n 0 (i .0)
+    from-keeps (HeadingIs profile width) i k = walk-keeps (suc (length s)) width (start profile) (k profile width refl (i .0))
+
+    -- begun under the input's profile, which is known
+    pub walked-keeps : (isProfile (profileOf s) ≡ true → P (start (profileOf s))) → Q (walked s)
+    unfolding walked profileOf
+    walked-keeps k = from-keeps (headingOf s) (heading-shows s) (λ profile width e. rw e at k)

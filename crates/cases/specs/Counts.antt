@@ -1,10 +1,20 @@
--- The limits of a case's counts, and the size of its sets of nodes. Document 01, "A case, command by command". Assumes nothing.
+-- The limits of a case's counts, by its profile, and the size of its sets of nodes. Document 01, "A case, command by command"; document 02,
+-- point 8. Assumes nothing.
 use Prim.Native.Nat.{ℕ, _*_, _≤_}
+use mathlib.Core.Bool.{Bool, cond}
+use lib.Dec.{eqb, leb}
 use Rattle.cases.specs.declared.counts.Counts.{Counts}
 use Rattle.cases.specs.declared.counts.Size.{Size}
 
-abbrev pub nodeLimit : ℕ
-nodeLimit = 128
+-- "profile 0 is 128 nodes and 32 shapes, 1 is 256 and 16, 2 is 512 and 8; the other limits stay"
+abbrev pub isProfile : ℕ → Bool
+isProfile profile = leb profile 2
+
+unfoldable pub nodeLimit : ℕ → ℕ
+nodeLimit profile = cond (eqb profile 0) 128 (cond (eqb profile 1) 256 512)
+
+unfoldable pub shapeLimit : ℕ → ℕ
+shapeLimit profile = cond (eqb profile 0) 32 (cond (eqb profile 1) 16 8)
 
 abbrev pub edgeLimit : ℕ
 edgeLimit = 1024
@@ -12,15 +22,12 @@ edgeLimit = 1024
 abbrev pub pathLimit : ℕ
 pathLimit = 16
 
-abbrev pub shapeLimit : ℕ
-shapeLimit = 32
-
 abbrev pub targetLimit : ℕ
 targetLimit = 256
 
--- the words of 64 bits that a set of nodes takes
+-- the words of 64 bits that a set of nodes takes: as many as the narrowest profile needs that lets in so many nodes
 unfoldable pub wordsOf : Counts → ℕ
-wordsOf counts = 2
+wordsOf counts = cond (leb (counts .nodes) 128) 2 (cond (leb (counts .nodes) 256) 4 8)
 
 abbrev pub sizeOf : Counts → Size
 sizeOf counts = record { nodes = counts .nodes; words = wordsOf counts }

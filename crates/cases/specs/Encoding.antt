@@ -1,4 +1,5 @@
--- A case written as bytes, so that reading gives it back. Document 01, "A case, command by command". Assumes nothing.
+-- A case written as bytes, under a profile, so that reading gives it back. Document 01, "A case, command by command"; document 02, point 8.
+-- Assumes nothing.
 use Prim.Native.Nat.{ℕ, _/_, _%_}
 use mathlib.Core.Path.{_≡_}
 use mathlib.Core.Bool.{Bool, true}
@@ -12,7 +13,7 @@ use Rattle.cases.specs.declared.command.ShapeRule.{ShapeRule}
 use Rattle.cases.specs.declared.command.ShapeRule.the-variants.{Top, Node, And, Or, Not, Same, All, AtLeast}
 use Rattle.cases.specs.declared.command.Target.{Target}
 use Rattle.cases.specs.Case.{Case}
-use Rattle.cases.specs.Reading.{Outcome, noRefusal, outcome}
+use Rattle.cases.specs.Reading.{Outcome, noRefusal, profileOf, outcome}
 
 -- a u16: two bytes, low byte first
 abbrev pub twoBytes : ℕ → List ℕ → List ℕ
@@ -49,14 +50,18 @@ module _ {A : Type 0} where
   encodeAll f (x ∷ xs) l = f x (encodeAll f xs l)
 
 -- 01 first, then edges, paths, shapes, targets, FF last
-unfoldable pub encode : Case → List ℕ
-encode c =
+unfoldable pub encodeCase : Case → List ℕ
+encodeCase c =
     0x01 ∷ twoBytes (c .nodes)
     (encodeAll encodeEdge (c .edges)
     (encodeAll encodePath (c .paths)
     (encodeAll encodeShape (c .shapes)
     (encodeAll encodeTarget (c .targets)
     (0xff ∷ [])))))
+
+-- 00 before them
+unfoldable pub encode : ℕ → Case → List ℕ
+encode profile c = 0x00 ∷ profile ∷ encodeCase c
 
 -- properties and least numbers are one byte each; the other operands of a sound case fit their bytes if it keeps the limits
 abbrev pub pathByte : PathRule → Bool
@@ -81,8 +86,9 @@ pub record OneByteEach (c : Case) : Type 0 where
   pub paths : all (c .paths) pathByte ≡ true
   pub shapes : all (c .shapes) shapeByte ≡ true
 
--- some bytes read as the case
-pub record Readable (c : Case) : Type 0 where
+-- some bytes read as the case, under the profile
+pub record Readable (profile : ℕ) (c : Case) : Type 0 where
   pub bytes : List ℕ
   pub are-bytes : all bytes (λ b. ltb b 256) ≡ true
+  pub under : profileOf bytes ≡ profile
   pub reads : _≡_ {A = Outcome} (outcome bytes) (record { refusal = noRefusal; case = c })

@@ -1,5 +1,5 @@
 -- What is at fault with a command, by what has been read before it: the tests behind refusals 2, 4 to 7 and 20.
--- Document 01, "A case, command by command" (limits, order) and "Refusals", Reading; document 02, point 4. Assumes nothing.
+-- Document 01, "A case, command by command" (limits, order) and "Refusals", Reading; document 02, points 4 and 8. Assumes nothing.
 use Prim.Native.Nat.{ℕ}
 use mathlib.Core.Bool.{Bool, true, false, cond, not, _&&_, _||_}
 use mathlib.Core.List.{List}
@@ -16,18 +16,19 @@ use Rattle.cases.specs.declared.counts.Counts.{Counts}
 use Rattle.cases.specs.Case.{edgeIs, pathsOfPath, pathsOfShape}
 use Rattle.cases.specs.Counts.{nodeLimit, edgeLimit, pathLimit, shapeLimit, targetLimit}
 
--- one 01 first, then edges, paths, shapes, targets, one FF last: last is the group of the command before, 0 at the start
+-- one 01 first, then edges, paths, shapes, targets, one FF last: last is the group of the command before, 0 at the start. A 00, of group 0, is
+-- in order nowhere: the one that may stand before 01 is read before these
 abbrev pub inOrder : ℕ → ℕ → Bool
 inOrder last group = cond (eqb last 0) (eqb group 1) (cond (eqb group 1) false (leb last group))
 
--- 4: the node count, or one more command of the group, is within the limit
-abbrev pub withinLimit : Counts → Command → Bool
-withinLimit k (Nodes n) = leb n nodeLimit
-withinLimit k (EdgeCommand e) = ltb (k .edges) edgeLimit
-withinLimit k (PathCommand r) = ltb (k .paths) pathLimit
-withinLimit k (ShapeCommand r) = ltb (k .shapes) shapeLimit
-withinLimit k (TargetCommand t) = ltb (k .targets) targetLimit
-withinLimit k End = true
+-- 4: the node count, or one more command of the group, is within the profile's limit
+abbrev pub withinLimit : ℕ → Counts → Command → Bool
+withinLimit profile k (Nodes n) = leb n (nodeLimit profile)
+withinLimit profile k (EdgeCommand e) = ltb (k .edges) edgeLimit
+withinLimit profile k (PathCommand r) = ltb (k .paths) pathLimit
+withinLimit profile k (ShapeCommand r) = ltb (k .shapes) (shapeLimit profile)
+withinLimit profile k (TargetCommand t) = ltb (k .targets) targetLimit
+withinLimit profile k End = true
 
 -- 5: node operands are below the node count
 unfoldable pub shapeNodesKnown : ℕ → ShapeRule → Bool

@@ -1,5 +1,5 @@
 -- The format: command bytes, operand widths, and the command that a part of the input starts with.
--- Document 01, "A case, command by command"; document 02, point 4. Assumes nothing.
+-- Document 01, "A case, command by command"; document 02, points 4 and 8. Assumes nothing.
 use Prim.Native.Nat.{ℕ, _+_, _*_}
 use mathlib.Core.Bool.{Bool, cond}
 use mathlib.Core.List.{List}
@@ -20,11 +20,12 @@ use Rattle.cases.specs.declared.format.Format.{Format}
 use Rattle.cases.specs.declared.format.Operands.{Operands}
 use Rattle.cases.specs.declared.format.Operands.the-variants.{Complete, Cut}
 
--- a command byte's group, in the order in which the groups stand: 1 nodes, 2 edges, 3 paths, 4 shapes, 5 targets, 6 end,
--- 0 for an unknown byte, and for 28, whose parts have a format of their own; then the widths of its operands in bytes, a u8 being 1 and a u16 2
+-- a command byte's group, in the order in which the groups stand: 0 profile, 1 nodes, 2 edges, 3 paths, 4 shapes, 5 targets, 6 end,
+-- 7 for an unknown byte, and for 28, whose parts have a format of their own; then the widths of its operands in bytes, a u8 being 1 and a u16 2
 unfoldable pub formatOf : ℕ → Format
 formatOf b =
-    cond (eqb b 0x01) (1, 2, 0, 0)
+    cond (eqb b 0x00) (0, 1, 0, 0)
+    (cond (eqb b 0x01) (1, 2, 0, 0)
     (cond (eqb b 0x02) (2, 1, 2, 2)
     (cond (eqb b 0x03) (2, 1, 2, 2)
     (cond (eqb b 0x10) (3, 1, 0, 0)
@@ -42,7 +43,7 @@ formatOf b =
     (cond (eqb b 0x27) (4, 1, 1, 1)
     (cond (eqb b 0x30) (5, 1, 2, 0)
     (cond (eqb b 0xff) (6, 0, 0, 0)
-    (0, 0, 0, 0))))))))))))))))))
+    (7, 0, 0, 0)))))))))))))))))))
 
 abbrev pub groupOf : ℕ → ℕ
 groupOf b = formatOf b .0
@@ -125,6 +126,6 @@ commandOf group r =
     (cond (eqb group 5) (TargetCommand (targetOf r))
     End))))
 
--- the command that a part of the input starts with
+-- the command that a part of the input starts with, if its byte is known and none of 00, which is out of order wherever this is asked
 unfoldable pub commandAt : List ℕ → Command
 commandAt s = commandOf (groupOf (getD s 0 0)) (rowOf s)

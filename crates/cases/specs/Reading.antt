@@ -1,7 +1,7 @@
 -- Reading: what is at fault with a command, the walk over the input, and what reading answers.
--- Document 01, "A case, command by command" (limits, order) and "Refusals", Reading; document 02, points 2 and 4. Assumes nothing.
+-- Document 01, "A case, command by command" (limits, order) and "Refusals", Reading; document 02, points 2, 4 and 8. Assumes nothing.
 use Prim.Native.Nat.{ℕ, zero, suc, _+_}
-use mathlib.Core.Bool.{Bool, true, false, cond, _||_}
+use mathlib.Core.Bool.{Bool, true, false, cond, _&&_, _||_}
 use mathlib.Core.List.{List, [], _∷_, _++_, map}
 use lib.ListN.{length, getD, drop}
 use lib.Dec.{eqb, leb, ltb}
@@ -10,6 +10,8 @@ use Rattle.cases.specs.declared.command.Command.the-variants.{Nodes, End
 use Rattle.cases.specs.declared.command.Command.the-variants.{Edge as EdgeCommand, Path as PathCommand, Shape as ShapeCommand, Target as TargetCommand}
 use Rattle.cases.specs.declared.command.Edge.{Edge}
 use Rattle.cases.specs.declared.command.Row.{Row}
+use Rattle.cases.specs.declared.answers.Heading.{Heading}
+use Rattle.cases.specs.declared.answers.Heading.the-variants.{Is as HeadingIs, Refused as HeadingRefused}
 use Rattle.cases.specs.declared.answers.Reading.{Reading}
 use Rattle.cases.specs.declared.answers.Refusal.{Refusal}
 use Rattle.cases.specs.declared.answers.Step.{Step}
@@ -17,21 +19,50 @@ use Rattle.cases.specs.declared.answers.Step.the-variants.{Is, Refused}
 use Rattle.cases.specs.declared.answers.Taken.{Taken}
 use Rattle.cases.specs.declared.counts.Counts.{Counts}
 use Rattle.cases.specs.Case.{Case, emptyCase, countsOf, references}
-use Rattle.cases.specs.Counts.{shapeLimit}
+use Rattle.cases.specs.Counts.{isProfile, shapeLimit}
 use Rattle.cases.specs.Faults.{inOrder, withinLimit, nodesKnown, pathsEarlier, leastPositive, edgeThere}
-use Rattle.cases.specs.Format.{groupOf, takenOf, rowOf, operandsOf, missing, commandAt}
+use Rattle.cases.specs.Format.{groupOf, takenOf, rowOf, complete, operandsOf, missing, commandAt}
 use Rattle.cases.specs.Parts.{Part, Plain, PartRead, PartFault, PartIs, partAt, depthLimit, names, expansion}
 
--- ---- Refusals 1 to 7: the faults of one command but 28, judged by what has been read before it
+-- ---- What the input begins with: the profile. 3 and 22 of a 00
+
+-- "Command 00 with a profile u8 may stand .. before 01": whether it does. One that stands elsewhere is out of order, as a second is
+abbrev pub headed : List ℕ → Bool
+headed s = ltb 0 (length s) && eqb (getD s 0 0) 0x00
+
+-- the profile and how many bytes say it, or the number of a refusal: "22 unknown profile, after 3 in the same command"; "No 00 means profile 0"
+unfoldable pub headingOf : List ℕ → Heading
+headingOf s =
+    cond (headed s)
+    (cond (complete s)
+    (cond (isProfile (rowOf s .1)) (HeadingIs (rowOf s .1) 2) (HeadingRefused 22))
+    (HeadingRefused 3))
+    (HeadingIs 0 0)
+
+-- the number of each of these answers
+abbrev pub headingNumber : Heading → ℕ
+headingNumber (HeadingIs profile width) = 0
+headingNumber (HeadingRefused n) = n
+
+-- the profile of an input, 0 where it is refused
+abbrev pub headingProfile : Heading → ℕ
+headingProfile (HeadingIs profile width) = profile
+headingProfile (HeadingRefused n) = 0
+
+unfoldable pub profileOf : List ℕ → ℕ
+profileOf s = headingProfile (headingOf s)
+
+-- ---- Refusals 1 to 7: the faults of one command but 28, behind what the input begins with, judged by the profile and by what has been read
+-- before it
 
 -- what follows, unless a test fails
 abbrev pub unless : Bool → ℕ → Step → Step
 unless ok number rest = cond ok rest (Refused number)
 
 -- 4 to 7, for a command that is whole
-unfoldable pub judged : Counts → Command → Row → Taken → Step
-judged counts command row taken =
-    unless (withinLimit counts command) 4
+unfoldable pub judged : ℕ → Counts → Command → Row → Taken → Step
+judged profile counts command row taken =
+    unless (withinLimit profile counts command) 4
     (unless (nodesKnown counts command) 5
     (unless (pathsEarlier counts command) 6
     (unless (leastPositive command) 7
@@ -39,12 +70,12 @@ judged counts command row taken =
 
 -- what is read where a part of the input starts, after a command of the group `last` and with the counts so far: a command, or the first
 -- refusal of 1 to 7
-unfoldable pub stepAt : ℕ → Counts → List ℕ → Step
-stepAt last counts s =
-    unless (ltb 0 (groupOf (getD s 0 0))) 1
+unfoldable pub stepAt : ℕ → ℕ → Counts → List ℕ → Step
+stepAt profile last counts s =
+    unless (ltb (groupOf (getD s 0 0)) 7) 1
     (unless (inOrder last (groupOf (getD s 0 0))) 2
     (unless (eqb (missing (operandsOf s)) 0) (missing (operandsOf s))
-    (judged counts (commandAt s) (rowOf s) (takenOf (getD s 0 0)))))
+    (judged profile counts (commandAt s) (rowOf s) (takenOf (getD s 0 0)))))
 
 -- the number of each of these answers
 abbrev pub numberOf : Step → ℕ
@@ -62,16 +93,18 @@ pub record Note : Type 0 where
   pub shape : ℕ
   pub place : ℕ
 
--- what has been read: the last command's group; the case so far, but for its shapes; these as parts, since a fresh shape has no number
--- before all are written; and the shape operands so far
+-- what has been read: the profile; the last command's group; the case so far, but for its shapes; these as parts, since a fresh shape has no
+-- number before all are written; and the shape operands so far
 pub record Progress : Type 0 where
+  pub profile : ℕ
   pub last : ℕ
   pub case : Case
   pub written : List Part
   pub named : List Note
 
-unfoldable pub start : Progress
-start = record { last = 0; case = emptyCase; written = []; named = [] }
+-- nothing but the profile
+unfoldable pub start : ℕ → Progress
+start profile = record { profile = profile; last = 0; case = emptyCase; written = []; named = [] }
 
 -- the counts so far; "4 counts no fresh shapes"
 unfoldable pub countsSoFar : Progress → Counts
@@ -113,9 +146,21 @@ pub data Entry : Type 0 where
 -- what has been read, with the command at an offset, of a group, read too
 unfoldable pub pass : Progress → ℕ → ℕ → Entry → Progress
 pass p at group (Shape x) =
-    record { last = group; case = p .case; written = p .written ++ (x ∷ []); named = p .named ++ namedAt at (names x) }
+    record {
+      profile = p .profile;
+      last = group;
+      case = p .case;
+      written = p .written ++ (x ∷ []);
+      named = p .named ++ namedAt at (names x);
+    }
 pass p at group (Other command) =
-    record { last = group; case = add (p .case) command; written = p .written; named = p .named ++ namedAt at (shapesNamed command) }
+    record {
+      profile = p .profile;
+      last = group;
+      case = add (p .case) command;
+      written = p .written;
+      named = p .named ++ namedAt at (shapesNamed command);
+    }
 
 -- ---- What is found where a command should start: 18, 19 and 20 too
 
@@ -149,12 +194,12 @@ foundUnless ok number rest = cond ok rest (Fault number)
 unfoldable pub nestedFound : Progress → List ℕ → Found
 nestedFound p s =
     foundUnless (inOrder (p .last) 4) 2
-    (foundUnless (ltb (length (p .written)) shapeLimit) 4
+    (foundUnless (ltb (length (p .written)) (shapeLimit (p .profile))) 4
     (partFound (partAt depthLimit (p .case .nodes) (length (p .case .paths)) s 1)))
 
--- "19 more than 32 written and fresh shapes so far, after 7 in each shape command"
+-- "19 more than 32 written and fresh shapes so far, after 7 in each shape command"; "4 and 19 use the profile's limits"
 abbrev pub roomFor : Progress → Entry → Bool
-roomFor p (Shape x) = leb (length (expansion (p .written ++ (x ∷ [])))) shapeLimit
+roomFor p (Shape x) = leb (length (expansion (p .written ++ (x ∷ [])))) (shapeLimit (p .profile))
 roomFor p (Other command) = true
 
 abbrev pub roomy : Progress → Found → Found
@@ -162,7 +207,7 @@ roomy p (Fault n) = Fault n
 roomy p (Good e taken) = foundUnless (roomFor p e) 19 (Good e taken)
 
 unfoldable pub roomyFound : Progress → List ℕ → Found
-roomyFound p s = roomy p (cond (eqb (getD s 0 0) 0x28) (nestedFound p s) (plainFound (stepAt (p .last) (countsSoFar p) s)))
+roomyFound p s = roomy p (cond (eqb (getD s 0 0) 0x28) (nestedFound p s) (plainFound (stepAt (p .profile) (p .last) (countsSoFar p) s)))
 
 -- "20 no such edge earlier, after 5 in the same command"
 abbrev pub parkable : List Edge → Entry → Bool
@@ -195,13 +240,13 @@ pub record Walked : Type 0 where
   pub read : Progress
 
 unfoldable pub refused : ℕ → ℕ → Walked
-refused number place = record { refusal = record { number = number; place = place }; read = start }
+refused number place = record { refusal = record { number = number; place = place }; read = start 0 }
 
 unfoldable pub finish : List ℕ → ℕ → Progress → Walked
 finish s end p =
     cond (eqb (afterEnd s end p .number) 0)
     (record { refusal = noRefusal; read = p })
-    (record { refusal = afterEnd s end p; read = start })
+    (record { refusal = afterEnd s end p; read = start 0 })
 
 abbrev pub isEnd : Command → Bool
 isEnd (Nodes n) = false
@@ -229,8 +274,13 @@ walk zero s at p = refused 3 at
 walk (suc fuel) s at p =
     cond (ltb at (length s)) (stepped (walk fuel s) s at p (foundAt p (drop at s))) (refused 3 at)
 
+-- after what the input begins with; a refusal of that has the place of the 00
+unfoldable pub walkedFrom : List ℕ → Heading → Walked
+walkedFrom s (HeadingRefused n) = refused n 0
+walkedFrom s (HeadingIs profile width) = walk (suc (length s)) s width (start profile)
+
 unfoldable pub walked : List ℕ → Walked
-walked s = walk (suc (length s)) s 0 start
+walked s = walkedFrom s (headingOf s)
 
 -- the written shapes of an input that reading does not refuse, as parts
 unfoldable pub partsOf : List ℕ → List Part
@@ -255,9 +305,9 @@ expanded p =
 unfoldable pub outcome : List ℕ → Outcome
 outcome s = record { refusal = walked s .refusal; case = expanded (walked s .read) }
 
--- reading's numbers: 0 for none, 1 to 9, 18, 19 and 20
+-- reading's numbers: 0 for none, 1 to 9, 18, 19, 20 and 22
 abbrev pub isReadingNumber : ℕ → Bool
-isReadingNumber n = leb n 9 || (eqb n 18 || (eqb n 19 || eqb n 20))
+isReadingNumber n = leb n 9 || (eqb n 18 || (eqb n 19 || (eqb n 20 || eqb n 22)))
 
 -- ---- What reading answers: number, place, and the counts, all 0 on a refusal
 

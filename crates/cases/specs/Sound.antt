@@ -1,5 +1,5 @@
 -- What holds of every case that reading gives: operands name what is there, and the limits are kept. Document 01's refusals 4 to 7 and 9
--- and document 02's 20, read as facts about the case. Assumes nothing.
+-- and document 02's 19, 20 and 22, read as facts about the case. Assumes nothing.
 use Prim.Native.Nat.{ℕ, _≤_, _<_}
 use mathlib.Core.Path.{_≡_}
 use mathlib.Core.Bool.{Bool, true, _&&_, _||_}
@@ -8,7 +8,7 @@ use lib.ListN.{length}
 use lib.Dec.{eqb, ltb}
 use Rattle.fixpoint.specs.Lists.{all}
 use Rattle.cases.specs.Case.{Case, references, pathRule}
-use Rattle.cases.specs.Counts.{nodeLimit, edgeLimit, pathLimit, shapeLimit, targetLimit}
+use Rattle.cases.specs.Counts.{isProfile, nodeLimit, edgeLimit, pathLimit, shapeLimit, targetLimit}
 use Rattle.cases.specs.declared.command.Edge.{Edge}
 use Rattle.cases.specs.Faults.{laid, shapeNodesKnown, pathPathsEarlier, shapePathsEarlier, shapeLeastPositive}
 
@@ -27,12 +27,13 @@ pub record Sound (c : Case) : Type 0 where
   pub shapes-named : all (c .shapes) (λ r. all (references r) (λ s. ltb s (length (c .shapes)))) ≡ true
   pub targets-named : all (c .targets) (λ t. ltb (t .shape .0) (length (c .shapes))) ≡ true
 
--- 4: the limits are kept
-pub record Limited (c : Case) : Type 0 where
-  pub nodes-limited : c .nodes ≤ nodeLimit
+-- 22, 4 and 19: the profile is known, and its limits are kept, by fresh shapes too
+pub record Limited (profile : ℕ) (c : Case) : Type 0 where
+  pub known : isProfile profile ≡ true
+  pub nodes-limited : c .nodes ≤ nodeLimit profile
   pub edges-limited : length (c .edges) ≤ edgeLimit
   pub paths-limited : length (c .paths) ≤ pathLimit
-  pub shapes-limited : length (c .shapes) ≤ shapeLimit
+  pub shapes-limited : length (c .shapes) ≤ shapeLimit profile
   pub targets-limited : length (c .targets) ≤ targetLimit
 
 -- 20: an edge is laid by an 02, or parked by a 03 behind an 02 of it; the first list are the edges before

@@ -5,6 +5,12 @@ use crate::counts::Counts;
 ghost use mathlib.Core.Path.{_≡_};
 ghost use Rattle.cases.specs.Reading.{numberOf, noRefusal};
 
+// What the input begins with: the profile and how many bytes say it, or the number of a refusal.
+pub enum Heading {
+    Is(usize, usize),
+    Refused(usize),
+}
+
 // What a command takes of the input: its group, in the order in which the groups stand, and its bytes.
 pub struct Taken {
     pub group: usize,

@@ -1,6 +1,6 @@
 // The counts of a case and the limits that they keep, and the size of its sets of nodes.
 ghost use mathlib.Core.Path.{_≡_};
-ghost use Rattle.cases.specs.Counts.{wordsOf, sizeOf};
+ghost use Rattle.cases.specs.Counts.{isProfile, nodeLimit, shapeLimit, wordsOf, sizeOf};
 
 // How many nodes, edges, paths, shapes and targets a case has.
 pub struct Counts {
@@ -11,15 +11,38 @@ pub struct Counts {
     pub targets: usize,
 }
 
-pub const NODE_LIMIT: usize = 128;
-
 pub const EDGE_LIMIT: usize = 1024;
 
 pub const PATH_LIMIT: usize = 16;
 
-pub const SHAPE_LIMIT: usize = 32;
-
 pub const TARGET_LIMIT: usize = 256;
+
+pub fn is_profile(profile: usize) -> bool
+    ensures { λ r. ⌜ r ≡ isProfile profile ⌝ }
+{
+    profile <= 2
+}
+
+// The limits that a profile sets.
+pub fn node_limit(profile: usize) -> usize
+    ensures { λ r. ⌜ r ≡ nodeLimit profile ⌝ }
+{
+    match profile {
+        0 => 128,
+        1 => 256,
+        _ => 512,
+    }
+}
+
+pub fn shape_limit(profile: usize) -> usize
+    ensures { λ r. ⌜ r ≡ shapeLimit profile ⌝ }
+{
+    match profile {
+        0 => 32,
+        1 => 16,
+        _ => 8,
+    }
+}
 
 // How many nodes there are, and how many words of 64 bits a set of them takes.
 pub struct Size {
@@ -31,7 +54,13 @@ pub struct Size {
 pub fn words_of(counts: Counts) -> usize
     ensures { λ r. ⌜ r ≡ wordsOf counts ⌝ }
 {
-    2
+    if counts.nodes <= 128 {
+        return 2;
+    }
+    if counts.nodes <= 256 {
+        return 4;
+    }
+    8
 }
 
 pub fn size_of(counts: Counts) -> Size

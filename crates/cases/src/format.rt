@@ -7,13 +7,14 @@ ghost use lib.ListN.{length};
 ghost use Rattle.cases.specs.Format.{formatOf, takenBy, numberAt, operandsBy, missing};
 ghost use Rattle.cases.specs.Parts.{partFormatOf};
 
-// A command byte's group, 0 for an unknown byte, and the widths of its operands in bytes.
+// A command byte's group, 7 for an unknown byte, and the widths of its operands in bytes.
 pub struct Format(pub usize, pub u8, pub u8, pub u8);
 
 pub fn format_of(code: u8) -> Format
     ensures { λ r. ⌜ r ≡ formatOf code ⌝ }
 {
     match code {
+        0x00 => Format(0, 1, 0, 0),
         0x01 => Format(1, 2, 0, 0),
         0x02 => Format(2, 1, 2, 2),
         0x03 => Format(2, 1, 2, 2),
@@ -32,7 +33,7 @@ pub fn format_of(code: u8) -> Format
         0x27 => Format(4, 1, 1, 1),
         0x30 => Format(5, 1, 2, 0),
         0xff => Format(6, 0, 0, 0),
-        _ => Format(0, 0, 0, 0),
+        _ => Format(7, 0, 0, 0),
     }
 }
 

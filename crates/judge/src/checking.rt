@@ -2,6 +2,7 @@
 use cases::answers::Refusal;
 use cases::counts::Counts;
 use checker::checking::check_pairs;
+use fillers::table::is_small;
 use fillers::table::node_sets;
 use reader::reading::parse;
 use semantics::answers::Checked;
@@ -59,6 +60,23 @@ pub fn answer(counts: Counts, rows: &[u16], values: &[u8], fault: Refusal) -> Ch
     }
 }
 
+// The first fault of a proposal for the case in the rows.
+fn find_fault(counts: Counts, rows: &[u16], values: &[u8], levels: &[u8]) -> Refusal
+    requires { ⌜ CaseIn counts (now rows) ⌝ }
+    requires { ⌜ counts .shapes * counts .nodes ≤ length (now values) ⌝ }
+    requires { ⌜ 2 * (counts .shapes * counts .nodes) ≤ length (now levels) ⌝ }
+    ensures { λ r. ⌜ r ≡ proposalFault (caseIn counts (now (rows .entry))) (now (values .entry)) (now (levels .entry)) ⌝ }
+{
+    if is_small(counts) {
+        let mut small = [0u64; 4104];
+        node_sets(counts, rows, &mut small);
+        return check_pairs(counts, rows, &small, values, levels);
+    }
+    let mut wide = [0u64; 65544];
+    node_sets(counts, rows, &mut wide);
+    check_pairs(counts, rows, &wide, values, levels)
+}
+
 // Checks a proposal for the case in the rows.
 fn check_case(counts: Counts, rows: &[u16], values: &[u8], levels: &[u8]) -> Checked
     requires { ⌜ CaseIn counts (now rows) ⌝ }
@@ -66,10 +84,12 @@ fn check_case(counts: Counts, rows: &[u16], values: &[u8], levels: &[u8]) -> Che
     requires { ⌜ 2 * (counts .shapes * counts .nodes) ≤ length (now levels) ⌝ }
     ensures { λ r. ⌜ r ≡ checked (proposalFault (caseIn counts (now (rows .entry))) (now (values .entry)) (now (levels .entry))) (caseIn counts (now (rows .entry))) (now (values .entry)) ⌝ }
 {
-    let mut sets = [0u64; 4098];
-    node_sets(counts, rows, &mut sets);
-    let fault = check_pairs(counts, rows, &sets, values, levels);
-    answer(counts, rows, values, fault)
+    answer(
+        counts,
+        rows,
+        values,
+        find_fault(counts, rows, values, levels),
+    )
 }
 
 // Checks a proposal: a case of any bytes, and a value and a level table of any bytes and lengths.

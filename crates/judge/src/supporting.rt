@@ -2,8 +2,10 @@
 // checking's counts; and in each case the byte 1. Nothing is written.
 use crate::checking::answer;
 use crate::checking::refused;
+use cases::answers::Refusal;
 use cases::counts::Counts;
 use checker::checking::check_support;
+use fillers::table::is_small;
 use fillers::table::node_sets;
 use reader::reading::parse;
 use semantics::answers::Checked;
@@ -31,16 +33,29 @@ fn with_old_code(checked: Checked) -> CheckedOld
     }
 }
 
+// The first fault of the values proposed for the case in the rows.
+fn find_fault(counts: Counts, rows: &[u16], values: &[u8]) -> Refusal
+    requires { ⌜ CaseIn counts (now rows) ⌝ }
+    requires { ⌜ counts .shapes * counts .nodes ≤ length (now values) ⌝ }
+    ensures { λ r. ⌜ r ≡ supportedFault (caseIn counts (now (rows .entry))) (now (values .entry)) ⌝ }
+{
+    if is_small(counts) {
+        let mut small = [0u64; 4104];
+        node_sets(counts, rows, &mut small);
+        return check_support(counts, rows, &small, values);
+    }
+    let mut wide = [0u64; 65544];
+    node_sets(counts, rows, &mut wide);
+    check_support(counts, rows, &wide, values)
+}
+
 // Checks the values proposed for the case in the rows.
 fn check_values(counts: Counts, rows: &[u16], values: &[u8]) -> Checked
     requires { ⌜ CaseIn counts (now rows) ⌝ }
     requires { ⌜ counts .shapes * counts .nodes ≤ length (now values) ⌝ }
     ensures { λ r. ⌜ r ≡ checked (supportedFault (caseIn counts (now (rows .entry))) (now (values .entry))) (caseIn counts (now (rows .entry))) (now (values .entry)) ⌝ }
 {
-    let mut sets = [0u64; 4098];
-    node_sets(counts, rows, &mut sets);
-    let fault = check_support(counts, rows, &sets, values);
-    answer(counts, rows, values, fault)
+    answer(counts, rows, values, find_fault(counts, rows, values))
 }
 
 // Checks values of any bytes and length for a case of any bytes.

@@ -45,7 +45,7 @@ use Rattle.reader.proofs.Stores.{says-command}
 
 -- ---- A refusal leaves the tables
 
-refused-is : {found : Progress → Found} {at n : ℕ} {reached : Reached} {fresh named fresh′ named′ : List ℕ} → reached .fresh ≤ shapeLimit
+refused-is : {found : Progress → Found} {at n : ℕ} {reached : Reached} {fresh named fresh′ named′ : List ℕ} → reached .fresh ≤ 32
     → length fresh′ ≡ length fresh → length named′ ≡ length named → ((p : Progress) → Stands p reached → found p ≡ Fault n)
     → FindingIs found at reached fresh named (refusedFinding n reached) fresh′ named′
 unfolding StepIs
@@ -84,10 +84,11 @@ few-names (ShapeCommand r) = few-references r
 few-names (TargetCommand t) = omega arith
 few-names End = omega arith
 
-module _ (part : List ℕ) (reached : Reached) {step : Step} (s : step ≡ stepAt (reached .last) (reached .counts) part) where
-  plain-is : (p : Progress) → Stands p reached → plainFound (stepAt (p .last) (countsSoFar p) part) ≡ plainFound step
+module _ (part : List ℕ) (reached : Reached) {step : Step} (s : step ≡ stepAt (reached .profile) (reached .last) (reached .counts) part) where
+  plain-is : (p : Progress) → Stands p reached → plainFound (stepAt (p .profile) (p .last) (countsSoFar p) part) ≡ plainFound step
   plain-is p h =
-      ap plainFound (ap (λ l. stepAt l (countsSoFar p) part) (h .last-is) ∙ ap (λ k. stepAt (reached .last) k part) (h .counts-are) ∙ sym s)
+      ap plainFound (ap (λ l. stepAt l (p .last) (countsSoFar p) part) (h .profile-is) ∙ ap (λ l. stepAt (reached .profile) l (countsSoFar p) part) (h .last-is)
+      ∙ ap (λ k. stepAt (reached .profile) (reached .last) k part) (h .counts-are) ∙ sym s)
 
   pub plain-refused : {at n m : ℕ} {named : List ℕ} → step ≡ Refused n → m ≡ numberOf step → {r : Finding} → r ≡ refusedFinding m reached → PlainAs part at reached named r named
   plain-refused e q z = rw (z, q, e) (record { found = λ h fresh. refused-is h refl refl (λ p k. plain-is p k ∙ rw e) })
@@ -99,7 +100,7 @@ module _ (part : List ℕ) (reached : Reached) {step : Step} (s : step ≡ stepA
     plain-says : says row command
     unfolding StepShows commandAt
     plain-says =
-        let o = rw (← s, e) at (step-shows (reached .last) (reached .counts) part) in
+        let o = rw (← s, e) at (step-shows (reached .profile) (reached .last) (reached .counts) part) in
         rw (o .command-is, o .row-is) (says-command (groupOf (getD part 0 0)) (rowOf part))
 
     pub plain-noted : {at m : ℕ} {named named′ : List ℕ} → Noted (shapesNamed command) at (reached .noted) named m named′
@@ -133,15 +134,16 @@ module _ {part : List ℕ} {at : ℕ} {reached : Reached} {fresh named : List �
   nested-disordered o n z = rw z (record { found = refused-is (omega (arith, room .few)) refl refl (λ p h. rw (h .last-is, failed o n)) })
 
   module _ {b : Bool} (o : b ≡ inOrder (reached .last) 4) (n : not b ≡ false) where
-    pub nested-full : shapeLimit ≤ reached .counts .shapes → {r : Finding} → r ≡ refusedFinding 4 reached → NestedAs part at reached fresh named r fresh named
+    pub nested-full : {limit : ℕ} → limit ≡ shapeLimit (reached .profile) → limit ≤ reached .counts .shapes → {r : Finding} → r ≡ refusedFinding 4 reached → NestedAs part at reached fresh named r fresh named
     unfolding nestedFound countsSoFar
-    nested-full f z = rw z (record {
+    nested-full l f z = rw z (record {
       found = refused-is (omega (arith, room .few)) refl refl
-          (λ p h. rw (h .last-is, passed o n, le-ltb (length (p .written)) shapeLimit (omega (arith, ap (λ k. k .shapes) (h .counts-are)))));
+          (λ p h. let full = le-ltb (length (p .written)) (shapeLimit (reached .profile)) (omega (arith, l, ap (λ k. k .shapes) (h .counts-are))) in
+          rw (h .last-is, passed o n, h .profile-is, full));
     })
 
 -- what the parts come to, and how many fresh shapes there are then
-part-is : (at : ℕ) (reached : Reached) (fresh named fresh′ named′ : List ℕ) (read : PartRead) (opened : Opened) → reached .fresh ≤ shapeLimit
+part-is : (at : ℕ) (reached : Reached) (fresh named fresh′ named′ : List ℕ) (read : PartRead) (opened : Opened) → reached .fresh ≤ 32
     → OpenedIs 509 read (record { place = at; at = 1; fresh = reached .fresh; noted = reached .noted }) fresh named opened fresh′ named′
     → StepIs (partFound read) at reached fresh named (partFinding opened reached .step) (partFinding opened reached .fresh) (partFinding opened reached .noted) fresh′ named′
     × (partFinding opened reached .fresh ≤ 541)
@@ -178,12 +180,12 @@ module _ {part : List ℕ} {at : ℕ} {reached : Reached} {fresh named : List �
   unfolding budget
   nested-room = record { room = record { within = omega (arith, room .some); few = omega (arith, room .few); rows = room .rows; notes = room .notes } }
 
-  pub nested-read : {b : Bool} → b ≡ inOrder (reached .last) 4 → not b ≡ false → reached .counts .shapes < shapeLimit
+  pub nested-read : {b : Bool} → b ≡ inOrder (reached .last) 4 → not b ≡ false → {limit : ℕ} → limit ≡ shapeLimit (reached .profile) → reached .counts .shapes < limit
       → {opened : Opened} {fresh′ named′ : List ℕ}
       → OpenedAs 7 (reached .counts) part (record { place = at; at = 1; fresh = reached .fresh; noted = reached .noted }) fresh named opened fresh′ named′
       → {r : Finding} → r ≡ partFinding opened reached → NestedAs part at reached fresh named r fresh′ named′
   unfolding nestedFound countsSoFar budget
-  nested-read o n f {opened} {fresh′} {named′} i z =
+  nested-read o n l f {opened} {fresh′} {named′} i z =
       let s = part-is at reached fresh named fresh′ named′ _ opened (omega (arith, room .few)) (i .is) in
       rw z (record {
         found = record {
@@ -191,8 +193,8 @@ module _ {part : List ℕ} {at : ℕ} {reached : Reached} {fresh named : List �
           fresh-long = i .fresh-long;
           named-long = i .named-long;
           is = λ p h.
-              let w = lt-ltb (length (p .written)) shapeLimit (omega (arith, ap (λ k. k .shapes) (h .counts-are))) in
-              rw (h .last-is, passed o n, w, ap (λ k. k .nodes) (h .counts-are), ap (λ k. k .paths) (h .counts-are)) (s .0);
+              let w = lt-ltb (length (p .written)) (shapeLimit (reached .profile)) (omega (arith, l, ap (λ k. k .shapes) (h .counts-are))) in
+              rw (h .last-is, passed o n, h .profile-is, w, ap (λ k. k .nodes) (h .counts-are), ap (λ k. k .paths) (h .counts-are)) (s .0);
         };
       })
 
@@ -204,17 +206,18 @@ room-plain room = record { some = room .some; notes = omega (arith, room .notes)
 -- 19 is said of a shape exactly where there is no room for it
 module _ (p : Progress) (reached : Reached) (h : Stands p reached) (n : ℕ) where
   room-is : (e : Entry) → n ≡ reached .fresh + length (entryInside (256 + reached .fresh) e)
-      → isShapeEntry e && leb shapeLimit (reached .counts .shapes + n) ≡ not (roomFor p e)
+      → isShapeEntry e && leb (shapeLimit (reached .profile)) (reached .counts .shapes + n) ≡ not (roomFor p e)
   unfolding countsSoFar
   room-is (Other command) l = refl
   room-is (Shape x) l =
+      let limit = shapeLimit (reached .profile) in
       let written = ap (λ k. k .shapes) (h .counts-are) in
       let t : length (expansion (p .written ++ (x ∷ []))) ≡ reached .counts .shapes + n + 1 =
       omega (arith, length-expansion (p .written ++ (x ∷ [])), length-append (p .written) (x ∷ []), freshCount-more (p .written) x, h .fresh-is, length-inside (256 + reached .fresh) x) in
       ⊎-elim
-      (λ b. rw (lt-leb shapeLimit (reached .counts .shapes + n) b, t, le-leb (reached .counts .shapes + n + 1) shapeLimit (omega arith)))
-      (λ b. rw (le-leb shapeLimit (reached .counts .shapes + n) b, t, lt-leb (reached .counts .shapes + n + 1) shapeLimit (omega arith)))
-      (lt-cases (reached .counts .shapes + n) shapeLimit)
+      (λ b. rw (lt-leb limit (reached .counts .shapes + n) b, h .profile-is, t, le-leb (reached .counts .shapes + n + 1) limit (omega arith)))
+      (λ b. rw (le-leb limit (reached .counts .shapes + n) b, h .profile-is, t, lt-leb (reached .counts .shapes + n + 1) limit (omega arith)))
+      (lt-cases (reached .counts .shapes + n) limit)
 
 -- how many fresh shapes there are with those of an entry
 pub rules-count : (t t′ : List ℕ) (n n′ : ℕ) (own : List ShapeRule) → rulesIn t′ n′ ≡ rulesIn t n ++ own → n′ ≡ n + length own
@@ -223,13 +226,13 @@ rules-count t t′ n n′ own e = omega (arith, ap length e, length-append (rule
 -- a finding judged by 19
 module _ (found : Progress → Found) (at : ℕ) (reached : Reached) (fresh named fresh′ named′ : List ℕ) (n m : ℕ) where
   roomy-is : (step : Step) (p : Progress) → Stands p reached → StepIs (found p) at reached fresh named step n m fresh′ named′
-      → (isBeyond step (reached .counts .shapes + n) ≡ true → roomy p (found p) ≡ Fault 19)
-      × (isBeyond step (reached .counts .shapes + n) ≡ false → StepIs (roomy p (found p)) at reached fresh named step n m fresh′ named′)
+      → (isBeyond step (reached .profile) (reached .counts .shapes + n) ≡ true → roomy p (found p) ≡ Fault 19)
+      × (isBeyond step (reached .profile) (reached .counts .shapes + n) ≡ false → StepIs (roomy p (found p)) at reached fresh named step n m fresh′ named′)
   unfolding StepIs
   roomy-is (Refused number) p h i = (λ b. absurd (false≢true b), λ b. rw i)
   roomy-is (Is command row taken) p h i =
       let count = rules-count fresh fresh′ (reached .fresh) n (entryInside (256 + reached .fresh) (i .entry)) (i .rules) in
-      let r : isBeyond (Is command row taken) (reached .counts .shapes + n) ≡ not (roomFor p (i .entry)) = rw (i .shaped) (room-is p reached h n (i .entry) count) in (
+      let r : isBeyond (Is command row taken) (reached .profile) (reached .counts .shapes + n) ≡ not (roomFor p (i .entry)) = rw (i .shaped) (room-is p reached h n (i .entry) count) in (
         λ b. rw (i .is) (rw (not-true (roomFor p (i .entry)) (sym r ∙ b))),
         λ b. rw (i .is, not-false (roomFor p (i .entry)) (sym r ∙ b)) (record {
           entry = i .entry;
@@ -244,7 +247,7 @@ module _ (found : Progress → Found) (at : ℕ) (reached : Reached) (fresh name
 
 -- a finding judged by one test more: its refusal, or as it was
 judged-is : (found found′ : Progress → Found) {at : ℕ} {reached : Reached} {fresh named : List ℕ} {r : Finding} {fresh′ named′ : List ℕ} (b : Bool) {n : ℕ}
-    → reached .fresh ≤ shapeLimit
+    → reached .fresh ≤ 32
     → ((p : Progress) → Stands p reached → StepIs (found p) at reached fresh named (r .step) (r .fresh) (r .noted) fresh′ named′
     → (b ≡ true → found′ p ≡ Fault n) × (b ≡ false → StepIs (found′ p) at reached fresh named (r .step) (r .fresh) (r .noted) fresh′ named′))
     → FindingIs found at reached fresh named r fresh′ named′ → FindingIs found′ at reached fresh named (cond b (refusedFinding n reached) r) fresh′ named′
@@ -256,11 +259,11 @@ judged-is found found′ false few k f = record {
   is = λ p h. k p h (f .is p h) .1 refl;
 }
 
-with-room-is : (found : Progress → Found) {at : ℕ} {reached : Reached} {fresh named : List ℕ} {r : Finding} {fresh′ named′ : List ℕ} → reached .fresh ≤ shapeLimit
+with-room-is : (found : Progress → Found) {at : ℕ} {reached : Reached} {fresh named : List ℕ} {r : Finding} {fresh′ named′ : List ℕ} → reached .fresh ≤ 32
     → FindingIs found at reached fresh named r fresh′ named′ → FindingIs (λ p. roomy p (found p)) at reached fresh named (withRoom r reached) fresh′ named′
 unfolding withRoom
 with-room-is found {at} {reached} {fresh} {named} {r} {fresh′} {named′} few f =
-    judged-is found (λ p. roomy p (found p)) (isBeyond (r .step) (reached .counts .shapes + r .fresh)) few
+    judged-is found (λ p. roomy p (found p)) (isBeyond (r .step) (reached .profile) (reached .counts .shapes + r .fresh)) few
     (roomy-is found at reached fresh named fresh′ named′ (r .fresh) (r .noted) (r .step)) f
 
 -- a finding judged by 20
@@ -318,6 +321,6 @@ module _ {part : List ℕ} {at : ℕ} {reached : Reached} {fresh named : List �
       → RoomyAs part at reached fresh named r′ fresh named′
   unfolding roomyFound
   found-plain b f z =
-      let few : reached .fresh ≤ shapeLimit = omega (arith, room .few) in
+      let few : reached .fresh ≤ 32 = omega (arith, room .few) in
       let e : eqb (getD part 0 0) 0x28 ≡ false = ne-eqb (getD part 0 0) 0x28 b in
-      rw z (record { found = simp e (with-room-is (λ p. plainFound (stepAt (p .last) (countsSoFar p) part)) few (f .found few fresh)) })
+      rw z (record { found = simp e (with-room-is (λ p. plainFound (stepAt (p .profile) (p .last) (countsSoFar p) part)) few (f .found few fresh)) })

@@ -2,6 +2,7 @@
 pub mod Stores
 pub mod Noting
 pub mod Judging
+pub mod Headings
 pub mod Findings
 pub mod Laid
 pub mod Walking

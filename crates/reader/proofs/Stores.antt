@@ -19,6 +19,7 @@ use Rattle.cases.specs.declared.counts.Counts.{Counts}
 use Rattle.cases.specs.Format.{edgeOf, pathRuleOf, shapeRuleOf, targetOf, commandOf}
 use Rattle.cases.specs.Reading.{add}
 use Rattle.cases.specs.Rows.{edgeIn, pathIn, shapeIn, targetIn, caseIn}
+use Rattle.cases.proofs.Profiles.{shapes-at-most}
 use Rattle.parts.specs.Tables.{putRow}
 use Rattle.parts.proofs.Stores.{length-putRow, kind-kept, kind-more}
 use Rattle.reader.specs.Storing.{says, StoreRoom, Stored}
@@ -89,8 +90,8 @@ module _ {k : Counts} {rows rows′ : List ℕ} {r : Row} where
               c,
               kind-kept rows at r edgeOf (λ i. i) (k .edges) (λ i l e. omega (arith, tests)),
               kind-kept rows at r pathRuleOf (λ i. 1036 + i) (k .paths) (λ i l e. omega (arith, tests)),
-              kind-more rows at r shapeRuleOf (λ i. 1052 + i) (k .shapes) refl (λ i l e. omega arith) (omega (arith, tests)) (rw c at (h .said)),
-              kind-kept rows at r targetOf (λ i. 1084 + i) (k .targets) (λ i l e. omega (arith, tests)),
+              kind-more rows at r shapeRuleOf (λ i. 1052 + i) (k .shapes) refl (λ i l e. omega arith) (omega (arith, tests, shapes-at-most (h .profile))) (rw c at (h .said)),
+              kind-kept rows at r targetOf (λ i. 1084 + i) (k .targets) (λ i l e. omega (arith, tests, shapes-at-most (h .profile))),
             );
         long = rw put (length-putRow rows at r);
       }

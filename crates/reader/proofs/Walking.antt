@@ -11,6 +11,8 @@ use lib.Seq.{take-all}
 use borrow.Author.Tests.{lt-ltb, le-ltb, eqb-true, eqb-false}
 use Rattle.fixpoint.specs.Lists.{from, upTo, all}
 use Rattle.fixpoint.proofs.Lists.{tests, by-test, all-mono}
+use Rattle.cases.specs.declared.answers.Heading.{Heading}
+use Rattle.cases.specs.declared.answers.Heading.the-variants.{Is as HeadingIs, Refused as HeadingRefused}
 use Rattle.cases.specs.declared.answers.Parsed.{Parsed}
 use Rattle.cases.specs.declared.answers.Refusal.{Refusal}
 use Rattle.cases.specs.declared.answers.Step.{Step}
@@ -24,13 +26,14 @@ use Rattle.cases.specs.declared.counts.Counts.{Counts}
 use Rattle.cases.specs.Case.{Case, emptyCase, countsOf}
 use Rattle.cases.specs.Faults.{withinLimit}
 use Rattle.cases.specs.Parts.{Part, Named, Plain, Around, Joining, names, size, innerSize, rule, rules, freshRules, freshCount, expansion}
-use Rattle.cases.specs.Reading.{numberOf, noRefusal, Note, Progress, start, countsSoFar, add, shapesNamed, namedAt, Entry, Shape, Other, pass, Found, Fault, Good, foundAt}
-use Rattle.cases.specs.Reading.{unknownShape, afterEnd, refused, finish, isEnd, isEndEntry, stepped, walk, walked, Outcome, expanded, outcome, reading}
+use Rattle.cases.specs.Reading.{headingOf, headingNumber, numberOf, noRefusal, Note, Progress, start, countsSoFar, add, shapesNamed, namedAt, Entry, Shape, Other, pass, Found, Fault, Good, foundAt}
+use Rattle.cases.specs.Reading.{unknownShape, afterEnd, refused, finish, isEnd, isEndEntry, stepped, walk, walkedFrom, walked, Outcome, expanded, outcome, reading}
 use Rattle.cases.specs.Rows.{edgeIn, caseIn, Full}
 use Rattle.cases.proofs.Expansion.{length-rules, length-freshRules, length-expansion, freshCount-more, rules-more, freshRules-more}
 use Rattle.cases.proofs.InRows.{counts-in, limited-fit}
-use Rattle.cases.proofs.Sound.{SoundSoFar, start-sound, sound-pass, afterEnd-none, below, outcome-sound, outcome-limited}
-use Rattle.cases.proofs.Steps.{EntryShows, Shows, Admitted, GoodShows, found-shows}
+use Rattle.cases.proofs.Profiles.{shapes-at-most}
+use Rattle.cases.proofs.Sound.{SoundSoFar, profile-pass, last-pass, start-sound, sound-pass, afterEnd-none, below, outcome-sound, outcome-limited}
+use Rattle.cases.proofs.Steps.{EntryShows, Shows, Admitted, GoodShows, found-shows, HeadingShows, heading-shows}
 use Rattle.parts.specs.Expanding.{withShapes, ExpandedAs}
 use Rattle.parts.specs.Tables.{rulesIn, namedIn}
 use Rattle.parts.proofs.Renumbering.{expansion-moved}
@@ -92,11 +95,6 @@ named-pass : (p : Progress) (at g : ℕ) (e : Entry) → p .named ++ namedAt at 
 unfolding pass
 named-pass p at g (Shape x) = refl
 named-pass p at g (Other command) = refl
-
-last-pass : (p : Progress) (at g : ℕ) (e : Entry) → pass p at g e .last ≡ g
-unfolding pass
-last-pass p at g (Shape x) = refl
-last-pass p at g (Other command) = refl
 
 end-entry : (n : ℕ) (e : Entry) → isEnd (entryCommand n e) ≡ isEndEntry e
 end-entry n (Shape x) = refl
@@ -214,6 +212,7 @@ pub record Going (s : List ℕ) (at : ℕ) (reached : Reached) (rows fresh named
   pub fresh-long : length fresh ≡ 2168
   pub named-long : length named ≡ 1660
   pub progress : Progress
+  pub profile-is : progress .profile ≡ reached .profile
   pub last-is : progress .last ≡ reached .last
   pub case-is : caseIn (reached .counts) rows ≡ drafted progress
   pub rules-are : rulesIn fresh (reached .fresh) ≡ freshRules 256 (progress .written)
@@ -224,34 +223,35 @@ pub record Going (s : List ℕ) (at : ℕ) (reached : Reached) (rows fresh named
   pub enough : length s < at + fuel
   pub same : walk fuel s at progress ≡ walked s
 
-none-in : (rows : List ℕ) → caseIn (nothingReached .counts) rows ≡ emptyCase
+none-in : (rows : List ℕ) → caseIn (nothingReached 0 .counts) rows ≡ emptyCase
 unfolding caseIn upTo from emptyCase
 none-in rows = refl
 
-pub going-none : {s rows fresh named : List ℕ} {reached : Reached} → Full rows → length fresh ≡ 2168 → length named ≡ 1660 → reached ≡ nothingReached
-    → Going s 0 reached rows fresh named
-unfolding walked drafted start emptyCase rules freshRules rulesIn namedIn upTo from
-going-none {s} {rows} full f n e = rw e (record {
+pub going-none : {s rows fresh named : List ℕ} {profile width : ℕ} {reached : Reached} → headingOf s ≡ HeadingIs profile width → Full rows → length fresh ≡ 2168
+    → length named ≡ 1660 → reached ≡ nothingReached profile → Going s width reached rows fresh named
+unfolding walked walkedFrom drafted start emptyCase rules freshRules rulesIn namedIn upTo from HeadingShows
+going-none {s} {rows} {profile = profile} h full f n e = rw e (record {
   full = full;
   fresh-long = f;
   named-long = n;
-  progress = start;
+  progress = start profile;
+  profile-is = refl;
   last-is = refl;
   case-is = none-in rows;
   rules-are = refl;
   notes-are = refl;
-  sound = start-sound;
+  sound = start-sound profile ((rw h at (heading-shows s)) .0);
   few = record { few = omega arith };
   fuel = suc (length s);
   enough = omega arith;
-  same = refl;
+  same = rw h;
 })
 
 -- the part that starts at an offset, as the loop lends it
 pub rest : (s : List ℕ) (at : ℕ) → take (length s - at) (drop at s) ≡ drop at s
 rest s at = take-all (length s - at) (drop at s) (omega (arith, length-drop at s))
 
--- what the input comes to is sound and within the limits
+-- what the input comes to is sound and fits its tables
 parsed-as : {s : List ℕ} {r : Parsed} {rows : List ℕ} → Full rows → _≡_ {A = Outcome} (record { refusal = r .refusal; case = caseIn (r .counts) rows }) (outcome s) → ParsedAs s r rows
 parsed-as {s} {r} {rows} full e =
     let same : outcome s .case ≡ caseIn (r .counts) rows = ap (λ (o : Outcome). o .case) (sym e) in
@@ -260,13 +260,18 @@ parsed-as {s} {r} {rows} full e =
       held = record { sound = rw same at (outcome-sound s); fit = limited-fit (counts-in (r .counts) rows) (rw same at (outcome-limited s)); full = full };
     }
 
-expanded-start : expanded start ≡ emptyCase
+expanded-start : expanded (start 0) ≡ emptyCase
 unfolding expanded start emptyCase expansion rules freshRules
 expanded-start = refl
 
 refused-in : (n at : ℕ) (s rows : List ℕ) → Full rows → refused n at ≡ walked s → ParsedAs s (refusedAs n at) rows
 unfolding refused outcome
 refused-in n at s rows full e = parsed-as full (rw (none-in rows, ← e, expanded-start))
+
+pub heading-refused : {s rows : List ℕ} {h : Heading} {n : ℕ} → Full rows → h ≡ headingOf s → h ≡ HeadingRefused n → {m : ℕ} → m ≡ headingNumber h
+    → {r : Parsed} → r ≡ refusedAs m 0 → ParsedAs s r rows
+unfolding walked walkedFrom
+heading-refused {s} {rows} {n = n} full e f i z = rw (z, i, f) (refused-in n 0 s rows full (rw (← e, f)))
 
 module _ {s : List ℕ} {at : ℕ} {reached : Reached} {rows fresh named : List ℕ} (g : Going s at reached rows fresh named) where
   counts-are : countsSoFar (g .progress) ≡ reached .counts
@@ -276,7 +281,7 @@ module _ {s : List ℕ} {at : ℕ} {reached : Reached} {rows fresh named : List 
   fresh-is = sym (length-freshRules 256 (g .progress .written)) ∙ rw (← g .rules-are) (length-rulesIn fresh (reached .fresh))
 
   stands : Stands (g .progress) reached
-  stands = record { last-is = g .last-is; counts-are = counts-are; fresh-is = fresh-is }
+  stands = record { profile-is = g .profile-is; last-is = g .last-is; counts-are = counts-are; fresh-is = fresh-is }
 
   edges-are : map (edgeIn rows) (upTo (reached .counts .edges)) ≡ g .progress .case .edges
   unfolding caseIn drafted
@@ -289,11 +294,14 @@ module _ {s : List ℕ} {at : ℕ} {reached : Reached} {rows fresh named : List 
   unfolding countsSoFar
   shapes-are = omega (arith, length-expansion (g .progress .written), ap (λ k. k .shapes) counts-are, fresh-is)
 
+  few-kept : length (expansion (g .progress .written)) ≤ 32
+  few-kept = omega (arith, g .sound .kept .few, shapes-at-most (g .progress .profile))
+
   within : StoredWithin (reached .counts)
   unfolding countsSoFar
   within =
       let k = g .sound .kept in
-      rw (← counts-are) (record { edges = k .edges .limited; paths = k .paths .limited; shapes = omega (arith, k .few, length-expansion (g .progress .written)); targets = k .targets .limited })
+      rw (← counts-are) (record { edges = k .edges .limited; paths = k .paths .limited; shapes = omega (arith, few-kept, length-expansion (g .progress .written)); targets = k .targets .limited })
 
   pub going-over : length s ≤ at → {r : Parsed} → r ≡ refusedAs 3 at → ParsedAs s r rows
   going-over h e = rw e (refused-in 3 at s rows (g .full) (sym (walk-over s at (g .progress) (g .fuel) h) ∙ g .same))
@@ -308,9 +316,9 @@ module _ {s : List ℕ} {at : ℕ} {reached : Reached} {rows fresh named : List 
   pub find-room : at < length s → FindRoom (take (length s - at) (drop at s)) reached fresh named
   find-room h = record {
     some = rw (rest s at) (omega (arith, length-drop at s));
-    few = omega (arith, shapes-are, g .sound .kept .few);
-    rows = omega (arith, shapes-are, g .sound .kept .few, g .fresh-long);
-    notes = omega (arith, shapes-are, g .sound .kept .few, g .few, noted-is, g .sound .kept .targets, g .named-long);
+    few = omega (arith, shapes-are, few-kept);
+    rows = omega (arith, shapes-are, few-kept, g .fresh-long);
+    notes = omega (arith, shapes-are, few-kept, g .few, noted-is, g .sound .kept .targets, g .named-long);
   }
 
   module _ (h : at < length s) {finding : Finding} {fresh′ named′ : List ℕ} (f : FoundAs (take (length s - at) (drop at s)) at reached rows fresh named finding fresh′ named′) where
@@ -354,7 +362,7 @@ module _ {s : List ℕ} {at : ℕ} {reached : Reached} {rows fresh named : List 
       pub taken-some : 0 < taken .width
       taken-some = shows .0 .some
 
-      entry-limit : (n : ℕ) (o : Entry) → EntryShows (g .progress) (drop at s) (taken .group) o → withinLimit (countsSoFar (g .progress)) (entryCommand n o) ≡ true
+      entry-limit : (n : ℕ) (o : Entry) → EntryShows (g .progress) (drop at s) (taken .group) o → withinLimit (g .progress .profile) (countsSoFar (g .progress)) (entryCommand n o) ≡ true
       unfolding EntryShows countsSoFar
       entry-limit n (Shape x) i = i .limit
       entry-limit n (Other c) i = i .limit
@@ -363,12 +371,13 @@ module _ {s : List ℕ} {at : ℕ} {reached : Reached} {rows fresh named : List 
       store-room = record {
         said = adds .said;
         within = within;
+        profile = g .progress .profile;
         more = rw (← counts-are, command-is) (entry-limit (256 + freshCount (g .progress .written)) (adds .entry) (shows .0 .entry));
         full = g .full;
       }
 
       pub going-more : {end : Bool} → end ≡ isEnd command → end ≡ false → {counts′ : Counts} {rows′ : List ℕ} → Stored command (reached .counts) rows counts′ rows′
-          → Going s (at + taken .width) (record { last = taken .group; counts = counts′; fresh = finding .fresh; noted = finding .noted }) rows′ fresh′ named′
+          → Going s (at + taken .width) (record { profile = reached .profile; last = taken .group; counts = counts′; fresh = finding .fresh; noted = finding .noted }) rows′ fresh′ named′
       unfolding stepped
       going-more q d {counts′} {rows′} a =
           let p = g .progress in
@@ -379,6 +388,7 @@ module _ {s : List ℕ} {at : ℕ} {reached : Reached} {rows fresh named : List 
             fresh-long = f .found .fresh-long ∙ g .fresh-long;
             named-long = f .found .named-long ∙ g .named-long;
             progress = pass p at (taken .group) o;
+            profile-is = profile-pass p at (taken .group) o ∙ g .profile-is;
             last-is = last-pass p at (taken .group) o;
             case-is = a .added ∙ ap (λ c. add c command) (g .case-is) ∙ ap (add (drafted p)) command-is ∙ draft-pass p at (taken .group) o shaped;
             rules-are = adds .rules ∙ rw (g .rules-are, number-is) (fresh-pass p at (taken .group) o);
@@ -393,13 +403,13 @@ module _ {s : List ℕ} {at : ℕ} {reached : Reached} {rows fresh named : List 
       pub end-room : EndRoom reached fresh′ named′ rows
       end-room = record {
         expand = record {
-          few = omega (arith, shapes-are, g .sound .kept .few);
+          few = omega (arith, shapes-are, few-kept);
           edges = omega (arith, within);
           paths = omega (arith, within);
-          there = omega (arith, shapes-are, g .sound .kept .few, g .fresh-long, f .found .fresh-long);
+          there = omega (arith, shapes-are, few-kept, g .fresh-long, f .found .fresh-long);
           full = g .full;
         };
-        notes = omega (arith, shapes-are, g .sound .kept .few, g .few, noted-is, g .sound .kept .targets, g .named-long, f .found .named-long);
+        notes = omega (arith, shapes-are, few-kept, g .few, noted-is, g .sound .kept .targets, g .named-long, f .found .named-long);
       }
 
       module _ {end : Bool} (q : end ≡ isEnd command) (d : end ≡ true) where
@@ -437,7 +447,7 @@ module _ {s : List ℕ} {at : ℕ} {reached : Reached} {rows fresh named : List 
         expanded-is z x =
             let p = g .progress in
             let w = length (p .written) in
-            let few : w ≤ 32 = omega (arith, length-expansion (p .written), g .sound .kept .few) in
+            let few : w ≤ 32 = omega (arith, length-expansion (p .written), few-kept) in
             let known = g .sound .named w (afterEnd-none s (at + 1) p z) .shapes in
             let bytes = all-mono (p .written) (λ y. all (names y) (λ q. ltb q w)) (λ y. all (names y) (λ q. ltb q 256))
             (λ y. all-mono (names y) (λ q. ltb q w) (λ q. ltb q 256) (λ q k. omega (arith, tests))) known in

@@ -30,8 +30,9 @@ use Rattle.reader.specs.Storing.{says}
 
 -- ---- The small functions
 
-abbrev pub nothingReached : Reached
-nothingReached = record { last = 0; counts = record { nodes = 0; edges = 0; paths = 0; shapes = 0; targets = 0 }; fresh = 0; noted = 0 }
+abbrev pub nothingReached : ℕ → Reached
+nothingReached profile =
+    record { profile = profile; last = 0; counts = record { nodes = 0; edges = 0; paths = 0; shapes = 0; targets = 0 }; fresh = 0; noted = 0 }
 
 abbrev pub refusedFinding : ℕ → Reached → Finding
 refusedFinding number reached = record { step = Refused number; fresh = reached .fresh; noted = reached .noted }
@@ -52,13 +53,13 @@ isShape (ShapeCommand r) = true
 isShape (TargetCommand t) = false
 isShape End = false
 
-abbrev pub isBeyond : Step → ℕ → Bool
-isBeyond (Refused number) shapes = false
-isBeyond (Is command row taken) shapes = isShape command && leb shapeLimit shapes
+abbrev pub isBeyond : Step → ℕ → ℕ → Bool
+isBeyond (Refused number) profile shapes = false
+isBeyond (Is command row taken) profile shapes = isShape command && leb (shapeLimit profile) shapes
 
 unfoldable pub withRoom : Finding → Reached → Finding
 withRoom finding reached =
-    cond (isBeyond (finding .step) (reached .counts .shapes + finding .fresh)) (refusedFinding 19 reached) finding
+    cond (isBeyond (finding .step) (reached .profile) (reached .counts .shapes + finding .fresh)) (refusedFinding 19 reached) finding
 
 abbrev pub isUnlaid : Step → List Edge → Bool
 isUnlaid (Refused number) edges = false
@@ -81,7 +82,7 @@ pub record PlainRoom (part : List ℕ) (reached : Reached) (named : List ℕ) : 
 -- a 28 can make 509 fresh shapes and notes before 19 is judged
 pub record FindRoom (part : List ℕ) (reached : Reached) (fresh named : List ℕ) : Type 0 where
   pub some : 0 < length part
-  pub few : reached .counts .shapes + reached .fresh ≤ shapeLimit
+  pub few : reached .counts .shapes + reached .fresh ≤ 32
   pub rows : 4 * (reached .fresh + 509) ≤ length fresh
   pub notes : 2 * (reached .noted + 509) ≤ length named
 
@@ -89,6 +90,7 @@ pub record FindRoom (part : List ℕ) (reached : Reached) (fresh named : List �
 
 -- what the counts say of what has been read
 pub record Stands (p : Progress) (reached : Reached) : Type 0 where
+  pub profile-is : p .profile ≡ reached .profile
   pub last-is : p .last ≡ reached .last
   pub counts-are : countsSoFar p ≡ reached .counts
   pub fresh-is : freshCount (p .written) ≡ reached .fresh
@@ -134,7 +136,7 @@ pub record FindingIs (found : Progress → Found) (at : ℕ) (reached : Reached)
 
 -- of a command but 28, which leaves the fresh shapes, whatever they are
 pub record PlainAs (part : List ℕ) (at : ℕ) (reached : Reached) (named : List ℕ) (r : Finding) (named′ : List ℕ) : Type 0 where
-  pub found : reached .fresh ≤ shapeLimit → (fresh : List ℕ) → FindingIs (λ p. plainFound (stepAt (p .last) (countsSoFar p) part)) at reached fresh named r fresh named′
+  pub found : reached .fresh ≤ 32 → (fresh : List ℕ) → FindingIs (λ p. plainFound (stepAt (p .profile) (p .last) (countsSoFar p) part)) at reached fresh named r fresh named′
 
 pub record NestedAs (part : List ℕ) (at : ℕ) (reached : Reached) (fresh named : List ℕ) (r : Finding) (fresh′ named′ : List ℕ) : Type 0 where
   pub found : FindingIs (λ p. nestedFound p part) at reached fresh named r fresh′ named′

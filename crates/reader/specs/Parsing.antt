@@ -35,7 +35,7 @@ pub record EndedAs (bytes end : ℕ) (reached : Reached) (fresh named rows : Lis
   pub refused : (r .refusal .number ≡ 0 → ⊥) → r .counts ≡ record { nodes = 0; edges = 0; paths = 0; shapes = 0; targets = 0 }
   pub expanded : r .refusal .number ≡ 0 → ExpandedAs (reached .counts) fresh (reached .fresh) rows (r .counts) rows′
 
--- what was parsed, with the case in the rows, is what the input comes to; the case is sound and within the limits, on a refusal too
+-- what was parsed, with the case in the rows, is what the input comes to; the case is sound and fits its tables, on a refusal too
 pub record ParsedAs (s : List ℕ) (r : Parsed) (rows : List ℕ) : Type 0 where
   pub comes-to : _≡_ {A = Outcome} (record { refusal = r .refusal; case = caseIn (r .counts) rows }) (outcome s)
   pub held : CaseIn (r .counts) rows

@@ -9,7 +9,7 @@ use Rattle.cases.specs.declared.command.Command.the-variants.{Nodes, End}
 use Rattle.cases.specs.declared.command.Command.the-variants.{Edge as EdgeCommand, Path as PathCommand, Shape as ShapeCommand, Target as TargetCommand}
 use Rattle.cases.specs.declared.command.Row.{Row}
 use Rattle.cases.specs.declared.counts.Counts.{Counts}
-use Rattle.cases.specs.Counts.{edgeLimit, pathLimit, shapeLimit, targetLimit}
+use Rattle.cases.specs.Counts.{edgeLimit, pathLimit, targetLimit}
 use Rattle.cases.specs.Format.{edgeOf, pathRuleOf, shapeRuleOf, targetOf}
 use Rattle.cases.specs.Faults.{withinLimit}
 use Rattle.cases.specs.Reading.{add}
@@ -24,18 +24,20 @@ says r (ShapeCommand s) = shapeRuleOf r ≡ s
 says r (TargetCommand t) = targetOf r ≡ t
 says r End = Unit {0}
 
--- each kind is within its limit
+-- each kind is within the rows that the table has for it
 pub record StoredWithin (counts : Counts) : Type 0 where
   pub edges : counts .edges ≤ edgeLimit
   pub paths : counts .paths ≤ pathLimit
-  pub shapes : counts .shapes ≤ shapeLimit
+  pub shapes : counts .shapes ≤ 32
   pub targets : counts .targets ≤ targetLimit
 
 -- and so it is with the command
 pub record StoreRoom (command : Command) (r : Row) (counts : Counts) (rows : List ℕ) : Type 0 where
   pub said : says r command
   pub within : StoredWithin counts
-  pub more : withinLimit counts command ≡ true
+  -- under some profile there is room for one more
+  pub profile : ℕ
+  pub more : withinLimit profile counts command ≡ true
   pub full : Full rows
 
 -- the case with the command added, in a table as long as before

@@ -1,4 +1,4 @@
-// What is at fault with a command but 28, judged by what has been read before it: refusals 1 to 7 in their order.
+// What is at fault with a command but 28, judged by the profile and by what has been read before it: refusals 1 to 7 in their order.
 use cases::answers::Step;
 use cases::answers::Taken;
 use cases::command::Command;
@@ -6,10 +6,10 @@ use cases::command::Row;
 use cases::command::command_of;
 use cases::counts::Counts;
 use cases::counts::EDGE_LIMIT;
-use cases::counts::NODE_LIMIT;
 use cases::counts::PATH_LIMIT;
-use cases::counts::SHAPE_LIMIT;
 use cases::counts::TARGET_LIMIT;
+use cases::counts::node_limit;
+use cases::counts::shape_limit;
 use cases::format::Operands;
 use cases::format::format_of;
 use cases::format::missing_number;
@@ -29,7 +29,8 @@ ghost use lib.ListN.{length};
 ghost use Rattle.cases.specs.Faults.{inOrder, withinLimit, nodesKnown, pathsEarlier, leastPositive};
 ghost use Rattle.cases.specs.Reading.{judged, stepAt};
 
-// Whether a command of this group may come after one of the group `last`, 0 at the start: one 01 first, then the groups in their order.
+// Whether a command of this group may come after one of the group `last`, 0 before the 01: one 01 first, then the groups in their order. A 00,
+// of group 0, may come nowhere here.
 pub fn in_order(last: usize, group: usize) -> bool
     ensures { λ r. ⌜ r ≡ inOrder last group ⌝ }
 {
@@ -42,14 +43,14 @@ pub fn in_order(last: usize, group: usize) -> bool
     last <= group
 }
 
-fn within_limit(counts: Counts, command: Command) -> bool
-    ensures { λ r. ⌜ r ≡ withinLimit counts command ⌝ }
+fn within_limit(profile: usize, counts: Counts, command: Command) -> bool
+    ensures { λ r. ⌜ r ≡ withinLimit profile counts command ⌝ }
 {
     match command {
-        Command::Nodes(n) => n <= NODE_LIMIT,
+        Command::Nodes(n) => n <= node_limit(profile),
         Command::Edge(_) => counts.edges < EDGE_LIMIT,
         Command::Path(_) => counts.paths < PATH_LIMIT,
-        Command::Shape(_) => counts.shapes < SHAPE_LIMIT,
+        Command::Shape(_) => counts.shapes < shape_limit(profile),
         Command::Target(_) => counts.targets < TARGET_LIMIT,
         Command::End => true,
     }
@@ -102,10 +103,10 @@ fn least_positive(command: Command) -> bool
 }
 
 // Judges a command that is there whole: refusals 4 to 7.
-fn judge(counts: Counts, command: Command, row: Row, taken: Taken) -> Step
-    ensures { λ r. ⌜ r ≡ judged counts command row taken ⌝ }
+fn judge(profile: usize, counts: Counts, command: Command, row: Row, taken: Taken) -> Step
+    ensures { λ r. ⌜ r ≡ judged profile counts command row taken ⌝ }
 {
-    if !within_limit(counts, command) {
+    if !within_limit(profile, counts, command) {
         return Step::Refused(4);
     }
     if !nodes_known(counts, command) {
@@ -120,15 +121,15 @@ fn judge(counts: Counts, command: Command, row: Row, taken: Taken) -> Step
     Step::Is(command, row, taken)
 }
 
-// Reads and judges the command that `part` starts with, after one of the group `last`.
-pub fn next(part: &[u8], last: usize, counts: Counts) -> Step
+// Reads and judges the command that `part` starts with, under a profile and after one of the group `last`.
+pub fn next(part: &[u8], profile: usize, last: usize, counts: Counts) -> Step
     requires { ⌜ 0 < length (now part) ⌝ }
-    ensures { λ r. ⌜ r ≡ stepAt last counts (now (part .entry)) ⌝ }
+    ensures { λ r. ⌜ r ≡ stepAt profile last counts (now (part .entry)) ⌝ }
 {
     let format = format_of(part[0]);
     let taken = taken_by(format);
     let group = taken.group;
-    if group == 0 {
+    if group == 7 {
         return Step::Refused(1);
     }
     if !in_order(last, group) {
@@ -138,5 +139,5 @@ pub fn next(part: &[u8], last: usize, counts: Counts) -> Step
     let Operands::Complete(row) = operands else {
         return Step::Refused(missing_number(operands));
     };
-    judge(counts, command_of(group, row), row, taken)
+    judge(profile, counts, command_of(group, row), row, taken)
 }

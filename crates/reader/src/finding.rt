@@ -11,8 +11,8 @@ use cases::command::Command;
 use cases::command::Row;
 use cases::command::shape_rule_of;
 use cases::counts::Counts;
-use cases::counts::SHAPE_LIMIT;
 use cases::counts::no_counts;
+use cases::counts::shape_limit;
 use parts::readers::Cursor;
 use parts::readers::Opened;
 use parts::readers::read_part;
@@ -24,18 +24,21 @@ ghost use Rattle.cases.specs.Rows.{edgeIn};
 ghost use Rattle.reader.specs.Finding.{nothingReached, refusedFinding, shapeStep, partFinding, isShape, isBeyond, withRoom, isUnlaid, withEdge};
 ghost use Rattle.reader.specs.Finding.{PlainRoom, PlainAs, FindRoom, NestedAs, RoomyAs, RowRoom, FoundAs};
 
-// What has been read: the last command's group, the counts of what the rows hold, and how many fresh rows and notes there are.
+// What has been read: the profile, the last command's group, the counts of what the rows hold, and how many fresh rows and notes there are.
 pub struct Reached {
+    pub profile: usize,
     pub last: usize,
     pub counts: Counts,
     pub fresh: usize,
     pub noted: usize,
 }
 
-pub fn nothing_reached() -> Reached
-    ensures { λ r. ⌜ r ≡ nothingReached ⌝ }
+// Nothing but the profile.
+pub fn nothing_reached(profile: usize) -> Reached
+    ensures { λ r. ⌜ r ≡ nothingReached profile ⌝ }
 {
     Reached {
+        profile,
         last: 0,
         counts: no_counts(),
         fresh: 0,
@@ -65,7 +68,7 @@ fn find_plain(part: &[u8], at: usize, reached: Reached, named: &mut [usize]) -> 
     requires { ⌜ PlainRoom (now part) reached (now named) ⌝ }
     ensures { λ r. ⌜ PlainAs (now (part .entry)) at reached (now (named .entry)) r (now (named .exit)) ⌝ }
 {
-    let step = next(part, reached.last, reached.counts);
+    let step = next(part, reached.profile, reached.last, reached.counts);
     let Step::Is(command, _, _) = step else {
         return refused_finding(number_of(step), reached);
     };
@@ -122,7 +125,7 @@ fn find_nested(
     if !in_order(reached.last, 4) {
         return refused_finding(2, reached);
     }
-    if SHAPE_LIMIT <= counts.shapes {
+    if shape_limit(reached.profile) <= counts.shapes {
         return refused_finding(4, reached);
     }
     let cursor = Cursor {
@@ -147,15 +150,15 @@ fn is_shape(command: Command) -> bool
     }
 }
 
-// Whether a step is a shape, and there are already as many as there may be.
-fn is_beyond(step: Step, shapes: usize) -> bool
-    ensures { λ r. ⌜ r ≡ isBeyond step shapes ⌝ }
+// Whether a step is a shape, and there are already as many as there may be under the profile.
+fn is_beyond(step: Step, profile: usize, shapes: usize) -> bool
+    ensures { λ r. ⌜ r ≡ isBeyond step profile shapes ⌝ }
 {
     let Step::Is(command, _, _) = step else {
         return false;
     };
     if is_shape(command) {
-        return SHAPE_LIMIT <= shapes;
+        return shape_limit(profile) <= shapes;
     }
     false
 }
@@ -167,7 +170,7 @@ fn with_room(finding: Finding, reached: Reached) -> Finding
 {
     let step = finding.step;
     let counts = reached.counts;
-    if is_beyond(step, counts.shapes + finding.fresh) {
+    if is_beyond(step, reached.profile, counts.shapes + finding.fresh) {
         return refused_finding(19, reached);
     }
     finding

@@ -1,9 +1,12 @@
-// One walk over the input. Its invariant: the tables hold the commands before `at`, none of them at fault, and what the whole input comes to
-// is what the walk comes to from there.
+// One walk over the input, under the profile that it begins with. Its invariant: the tables hold the commands before `at`, none of them at
+// fault, and what the whole input comes to is what the walk comes to from there.
 use crate::finding::Reached;
 use crate::finding::find;
 use crate::finding::nothing_reached;
+use crate::heading::heading;
+use crate::heading::heading_number;
 use crate::storing::store;
+use cases::answers::Heading;
 use cases::answers::Parsed;
 use cases::answers::Reading;
 use cases::answers::Refusal;
@@ -16,7 +19,8 @@ use parts::expanding::expand;
 ghost use mathlib.Core.Path.{_≡_};
 ghost use Prim.Native.Nat.{_*_, _≤_};
 ghost use lib.ListN.{length};
-ghost use Rattle.cases.specs.Reading.{reading, isEnd, unknownShape};
+ghost use Rattle.cases.specs.declared.answers.Heading.the-variants.{Is as HeadingIs};
+ghost use Rattle.cases.specs.Reading.{headingOf, reading, isEnd, unknownShape};
 ghost use Rattle.cases.specs.Rows.{Full};
 ghost use Rattle.parts.specs.Tables.{namedIn};
 ghost use Rattle.reader.specs.Parsing.{ParsedAs, refusedAs, EndRoom, EndedAs};
@@ -90,15 +94,16 @@ fn is_end(command: Command) -> bool
     }
 }
 
-// Reads a case into the rows.
-pub fn parse(case: &[u8], rows: &mut [u16]) -> Parsed
+// Reads the commands of a case into the rows, from the offset behind the profile on.
+fn walk(case: &[u8], profile: usize, width: usize, rows: &mut [u16]) -> Parsed
     requires { ⌜ Full (now rows) ⌝ }
+    requires { ⌜ headingOf (now case) ≡ HeadingIs profile width ⌝ }
     ensures { λ r. ⌜ ParsedAs (now (case .entry)) r (now (rows .exit)) ⌝ }
 {
     let mut fresh = [0u16; 2168];
     let mut named = [0usize; 1660];
-    let mut at = 0;
-    let mut reached = nothing_reached();
+    let mut at = width;
+    let mut reached = nothing_reached(profile);
     while at < case.len() {
         let finding = find(&case[at..], at, reached, rows, &mut fresh, &mut named);
         let step = finding.step;
@@ -109,7 +114,9 @@ pub fn parse(case: &[u8], rows: &mut [u16]) -> Parsed
             return ended(case.len(), at + 1, reached, &fresh, &named, rows);
         }
         let counts = store(command, row, reached.counts, rows);
+        let under = reached.profile;
         reached = Reached {
+            profile: under,
             last: taken.group,
             counts,
             fresh: finding.fresh,
@@ -118,6 +125,18 @@ pub fn parse(case: &[u8], rows: &mut [u16]) -> Parsed
         at += taken.width;
     }
     refused(3, at)
+}
+
+// Reads a case into the rows.
+pub fn parse(case: &[u8], rows: &mut [u16]) -> Parsed
+    requires { ⌜ Full (now rows) ⌝ }
+    ensures { λ r. ⌜ ParsedAs (now (case .entry)) r (now (rows .exit)) ⌝ }
+{
+    let begun = heading(case);
+    let Heading::Is(profile, width) = begun else {
+        return refused(heading_number(begun), 0);
+    };
+    walk(case, profile, width, rows)
 }
 
 // Reads a case of any bytes and any length.

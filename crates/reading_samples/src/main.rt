@@ -1,4 +1,4 @@
-// Reads the samples of document 01, each limit at it and one above, and each refusal 1 to 9, 18, 19 and 20, and prints what reading answers:
+// Reads the samples of document 01, each limit at it and one above, and each refusal 1 to 9, 18, 19, 20 and 22, and prints what reading answers:
 // the name, the refusal's number and place, and the counts of nodes, edges, paths, shapes and targets.
 mod build;
 
@@ -70,7 +70,7 @@ fn more_samples() {
 
 // Refusal 1.
 fn unknown_commands() {
-    show(b"1 first byte", b"\x00");
+    show(b"1 first byte", b"\x04");
     show(b"1 after paths", b"\x01\x00\x00\x15\xff");
     show(b"1 before 2", b"\x29");
 }
@@ -300,10 +300,54 @@ fn fresh_limit() {
     );
 }
 
-// The longest case that reads: 7,411 bytes, since the first path names no other.
+// A 00: refusals 3, 22 and 2, and each profile's nodes.
+fn profiles() {
+    show(b"00", b"\x00");
+    show(b"00 00", b"\x00\x00");
+    show(b"22", b"\x00\x03");
+    show(b"second 00", b"\x00\x00\x00\x00\x01\x00\x00\xff");
+    show(b"2 before 22", b"\x00\x02\x00\x03");
+    show(b"00 behind 01", b"\x01\x00\x00\x00\x00\xff");
+    show(b"edge behind 00", b"\x00\x01\x02\x00\x00\x00\x00\x00\xff");
+}
+
+fn profile_nodes() {
+    show(b"128 nodes, 00 00", b"\x00\x00\x01\x80\x00\xff");
+    show(b"129 nodes, 00 00", b"\x00\x00\x01\x81\x00\xff");
+    show(b"256 nodes, 00 01", b"\x00\x01\x01\x00\x01\xff");
+    show(b"257 nodes, 00 01", b"\x00\x01\x01\x01\x01\xff");
+    show(b"512 nodes, 00 02", b"\x00\x02\x01\x00\x02\xff");
+    show(b"513 nodes, 00 02", b"\x00\x02\x01\x01\x02\xff");
+}
+
+// Refusals 4 and 19 by the profile: written shapes, and written and fresh ones.
+fn profile_shapes() {
+    let one = b"\x00\x01\x01\x00\x01";
+    let two = b"\x00\x02\x01\x00\x02";
+    show_many(b"16 shapes, 00 01", one, b"\x20", 16, b"\xff");
+    show_many(b"17 shapes, 00 01", one, b"\x20", 17, b"\xff");
+    show_many(
+        b"17 with a fresh one, 00 01",
+        one,
+        b"\x20",
+        15,
+        b"\x28\x24\x20\xff",
+    );
+    show_many(b"8 shapes, 00 02", two, b"\x20", 8, b"\xff");
+    show_many(b"9 shapes, 00 02", two, b"\x20", 9, b"\xff");
+    show_many(
+        b"9 with a fresh one, 00 02",
+        two,
+        b"\x20",
+        7,
+        b"\x28\x24\x20\xff",
+    );
+}
+
+// The longest case that reads: 7,413 bytes, since the first path names no other.
 fn longest() {
     let mut case = [0u8; 8192];
-    let mut n = put(&mut case, 0, b"\x01\x80\x00");
+    let mut n = put(&mut case, 0, b"\x00\x00\x01\x80\x00");
     n = repeat(&mut case, n, b"\x02\x07\x7f\x00\x00\x00", 1024);
     n = put(&mut case, n, b"\x10\x07");
     n = repeat(&mut case, n, b"\x13\x00\x00", 15);
@@ -333,5 +377,8 @@ fn main() {
     unknown_names();
     depth_limit();
     fresh_limit();
+    profiles();
+    profile_nodes();
+    profile_shapes();
     longest();
 }

@@ -9,6 +9,7 @@ use lib.Seq.{ext-getD, length-take-le, getD-take}
 use borrow.Author.Tests.{ne-eqb, eq-eqb}
 use Rattle.fixpoint.proofs.Lists.{length-made, getD-made}
 use Rattle.cases.specs.Case.{emptyCase}
+use Rattle.cases.specs.Counts
 use Rattle.cases.specs.Format
 use Rattle.cases.specs.Parts
 use Rattle.cases.specs.Reading
@@ -39,7 +40,7 @@ unfolding emptyCase Format.formatOf Format.widthOf Format.takenOf Format.numberA
     Format.commandOf Format.commandAt Parts.rules Parts.freshRules Parts.expansion
     Reading.judged Reading.stepAt Reading.start Reading.add Reading.shapesNamed Reading.namedAt Reading.pass Reading.unknownShape
     Reading.afterEnd Reading.finish Reading.stepped Reading.walk Reading.countsSoFar Reading.roomyFound Reading.foundAt
-    Reading.walked Reading.expanded Reading.outcome
+    Reading.headingOf Reading.walkedFrom Reading.walked Reading.expanded Reading.outcome Counts.nodeLimit
 nothing = (refl, refl)
 
 pub reads-input : (s : List ℕ) → outcome s .refusal .number ≡ 0 → heldInput s ≡ s

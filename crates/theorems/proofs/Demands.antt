@@ -15,6 +15,7 @@ use Rattle.fixpoint.proofs.Lists.{getD-map, all-in, all-upTo-in, all-upTo-of}
 use Rattle.fixpoint.proofs.Sets.{collect-ext}
 use Rattle.fixpoint.proofs.Alternating.{rest-equal, rest-first}
 use Rattle.cases.specs.Case.{Case}
+use Rattle.cases.specs.Reading.{profileOf}
 use Rattle.cases.specs.Sound.{Sound, Limited}
 use Rattle.cases.proofs.Sound.{outcome-sound, outcome-limited}
 use Rattle.cases.specs.declared.command.Target.{Target}
@@ -38,7 +39,7 @@ pub case-sound : (s : List ℕ) → Sound (caseOf s)
 unfolding caseOf
 case-sound s = outcome-sound s
 
-case-limited : (s : List ℕ) → Limited (caseOf s)
+pub case-limited : (s : List ℕ) → Limited (profileOf s) (caseOf s)
 unfolding caseOf
 case-limited s = outcome-limited s
 

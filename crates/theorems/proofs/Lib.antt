@@ -6,3 +6,4 @@ pub mod Nested
 pub mod Totals
 pub mod OldCode
 pub mod Unfinished
+pub mod Profiles

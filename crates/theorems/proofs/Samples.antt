@@ -11,6 +11,7 @@ use Rattle.fixpoint.specs.Lists
 use Rattle.fixpoint.specs.Sets
 use Rattle.fixpoint.specs.Stages
 use Rattle.cases.specs.Case
+use Rattle.cases.specs.Counts
 use Rattle.cases.specs.Format
 use Rattle.cases.specs.Faults
 use Rattle.cases.specs.Parts
@@ -44,12 +45,12 @@ unfolding starred requested ring vouched oneNode clash notItself orItself twoPat
     Lists.nthLargest Lists.firstFrom
     Sets.has Sets.collect Sets.none Sets.same
     Stages.stage Stages.least Stages.firstStep Stages.reach Stages.closure Stages.lower Stages.upper Stages.rest
-    Case.emptyCase Case.countsOf Case.edgeIs Case.pathRule Case.shapeRule Case.pathsOfPath Case.pathsOfShape Case.references
+    Counts.nodeLimit Counts.shapeLimit Case.emptyCase Case.countsOf Case.edgeIs Case.pathRule Case.shapeRule Case.pathsOfPath Case.pathsOfShape Case.references
     Format.formatOf Format.widthOf Format.takenOf Format.numberAt Format.rowOf Format.complete Format.operandsBy Format.pathRuleOf Format.shapeRuleOf
     Format.commandOf Format.commandAt
     Faults.laid Faults.pathPathsEarlier Faults.shapePathsEarlier Reading.judged Faults.shapeNodesKnown Reading.stepAt Reading.start Reading.add
     Reading.shapesNamed Reading.namedAt Reading.pass Reading.unknownShape Reading.afterEnd Reading.finish Reading.stepped Reading.walk
-    Reading.countsSoFar Reading.nestedFound Reading.roomyFound Reading.foundAt Reading.walked Reading.expanded Reading.outcome
+    Reading.countsSoFar Reading.nestedFound Reading.roomyFound Reading.foundAt Reading.headingOf Reading.walkedFrom Reading.walked Reading.expanded Reading.outcome
     Parts.partFormatOf Parts.opening Parts.ruleHead Parts.atMostHead Parts.wholeHead Parts.headBy Parts.headAt Parts.andThen Parts.opened Parts.partAt
     Parts.names Parts.filled Parts.size Parts.innerSize Parts.operand Parts.rule Parts.fresh Parts.inside Parts.rules Parts.freshRules Parts.expansion
     Paths.live Paths.linked Paths.ruleFills Paths.fillsWithin Paths.fills Paths.fillers

@@ -2,3 +2,4 @@
 pub mod Demands
 pub mod Samples
 pub mod Unfinished
+pub mod Profiles

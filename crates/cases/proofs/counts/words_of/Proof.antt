@@ -1,12 +1,9 @@
 -- `cases::counts::words_of` meets its contract. Assumes nothing.
-use mathlib.Core.Path.{refl}
+use borrow.Author.Tests.{le-leb, lt-leb}
 use Rattle.cases.specs.Counts.{wordsOf}
 use Rattle.cases.proofs.counts.words_of.Statement.{statement}
 use Rattle.cases.proofs.counts.words_of.Tie as tie
 
-returns : tie.Need-returns
-unfolding wordsOf
-returns c = refl
-
 pub words-of-spec : {M : Type 1} → statement M
-words-of-spec = tie.close (tie.spec returns)
+unfolding wordsOf
+words-of-spec = tie.close (tie.spec (λ c. search le-leb) (λ c. search (le-leb, lt-leb)) (λ c. search lt-leb))

@@ -28,4 +28,5 @@ format-of-spec =
     (λ c. rw (c .match .keys16))
     (λ c. rw (c .match .keys17))
     (λ c. rw (c .match .keys18))
+    (λ c. rw (c .match .keys19))
     (λ c. search (ne-eqb, needs)))

@@ -1,42 +1,46 @@
--- `judge::solving::write_assignment` meets its contract. Assumes nothing.
-use Rattle.fillers.proofs.Prepared.{sets-room, tables-ready}
-use Rattle.judge.proofs.Solves.{assignment-written}
+-- `judge::solving::write_assignment` meets its contract: the table is large enough, and holds the sets of nodes. Assumes nothing.
+use Rattle.fillers.proofs.Making.{small-room, wide-room}
+use Rattle.fillers.proofs.Prepared.{tables-made}
 use borrow.Author.Needs.{needs}
 use Rattle.judge.proofs.solving.write_assignment.Statement.{statement}
 use Rattle.judge.proofs.solving.write_assignment.Tie as tie
 
 node-sets-requires : tie.Need-node-sets-requires
-node-sets-requires c κs = search (needs, sets-room)
+node-sets-requires c κs = search (needs, small-room)
 
-solve-sets-requires : tie.Need-solve-sets-requires
-solve-sets-requires c κs = (search (tables-ready, needs), (search needs, search needs))
+write-solved-requires : tie.Need-write-solved-requires
+write-solved-requires c κs =
+    let made = c .before .before .before .before in
+    let asked = made .before .before .before .before .before .before .before in
+    (asked .pre .0, (tables-made (asked .pre .0) (small-room _ (made .before .before .before .is-small .ensures) (made .before .before .if1 .taken)) (made .node-sets .ensures), (search needs, search needs)))
 
-write-levels-requires : tie.Need-write-levels-requires
-write-levels-requires c κs = (search (tables-ready, needs), (search needs, (search needs, search needs)))
+node-sets-requires-2 : tie.Need-node-sets-requires-2
+node-sets-requires-2 c κs =
+    let asked = c .before .before .before .before .before .before in
+    (asked .pre .0, wide-room (asked .args .counts) (asked .pre .0 .fit))
 
-returns : tie.Need-returns
-returns c =
-    assignment-written _ _
-    (c .before .before .before .before .before .before .before .before .before .before .before .before .before .before .before .solve-sets .ensures) _ _
-    (c .before .before .before .before .before .before .before .before .write-levels .ensures) (c .before .before .write-values .ensures)
+write-solved-requires-2 : tie.Need-write-solved-requires-2
+write-solved-requires-2 c κs =
+    let made = c .before .before .before .before in
+    let asked = made .before .before .before .before .before .before .before in
+    (asked .pre .0, (tables-made (asked .pre .0) (wide-room _ (asked .pre .0 .fit)) (made .node-sets2 .ensures), (search needs, search needs)))
 
 pub write-assignment-spec : {M : Type 1} → statement M
 write-assignment-spec =
     tie.close
     (tie.spec
+    (λ c κs. search needs)
     (λ c. search needs)
     node-sets-requires
     (λ c. search needs)
+    write-solved-requires
     (λ c. search needs)
     (λ c. search needs)
-    solve-sets-requires
     (λ c. search needs)
     (λ c. search needs)
+    node-sets-requires-2
     (λ c. search needs)
-    write-levels-requires
-    (λ c. search needs)
-    (λ c. search needs)
-    (λ c κs. search needs)
+    write-solved-requires-2
     (λ c. search needs)
     (λ c. search needs)
-    returns)
+    (λ c. search needs))

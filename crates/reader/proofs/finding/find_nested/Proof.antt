@@ -24,6 +24,7 @@ find-nested-spec =
     (λ c κs. search needs)
     returns
     (λ c κs. search needs)
+    (λ c κs. search needs)
     returns-2
     read-part-requires
     (λ c κs. search needs)
