@@ -1,6 +1,6 @@
 -- Membership in rows, word by word: a word stored, rows joined, rows compared, common members counted, over any number of words. Assumes nothing.
 use Prim.Native.Nat.{ℕ, zero, suc, _+_, _*_, _/_, _%_, _^_, _≤_, _<_}
-use native.Mathlib.Nat.{add-zero, add-suc, mul-le-mul-right, suc-mul, le-trans, le-of-eq, lt-of-le-of-lt}
+use native.Mathlib.Nat.{zero-add, add-zero, add-suc, mul-le-mul-right, suc-mul, le-trans, le-of-eq, lt-of-le-of-lt}
 use native.Mathlib.Omega.{arith}
 use mathlib.Core.Path.{_≡_, refl, sym, ap, ap₂, _∙_}
 use mathlib.Core.Logic.{_⊎_, inl, inr, ⊎-elim}
@@ -234,6 +234,14 @@ module _ {P : ℕ → Type 0} {w : ℕ} where
   pub passed-done : {i : ℕ} → w ≤ i → Passed P w i → (k : ℕ) → k < w → P k
   passed-done {i} h v k l = v .each k (omega arith)
 
+-- an answer that holds where the words of two rows agree is the test of the last words, once those before them agree
+last-decides : {w i : ℕ} {x : Bool} (f g : ℕ → ℕ) → w ≡ i + 1 → Passed (λ k. f k ≡ g k) w i
+    → (((k : ℕ) → k < w → f k ≡ g k) → x ≡ true) → (x ≡ true → f i ≡ g i) → eqb (f i) (g i) ≡ x
+last-decides {w} {i} {x} f g e v to of =
+    bool-ext (eqb (f i) (g i)) x
+    (λ h. to (passed-done (omega arith) (passed-more (omega arith) (eqb-true (f i) (g i) h) v)))
+    (λ h. eq-eqb (f i) (g i) (of h))
+
 -- Row r of t and row s of u, of w words
 module _ (t : List ℕ) (r : ℕ) (u : List ℕ) (s w : ℕ) where
   -- the one is in the other if each word is in its word
@@ -259,6 +267,14 @@ module _ (t : List ℕ) (r : ℕ) (u : List ℕ) (s w : ℕ) where
   subset-fails k h l n =
       fails (all (upTo (64 * w)) (λ b. not (member t w r b) || member u w s b)) (λ e. n (subset-in e k h l))
 
+  pub subset-last : (i : ℕ) → w ≡ i + 1 → getD t (r * w + i) 0 < 2 ^ 64
+      → Passed (λ k. bitAnd (getD t (r * w + k) 0) (getD u (s * w + k) 0) ≡ getD t (r * w + k) 0) w i
+      → eqb (bitAnd (getD t (r * w + i) 0) (getD u (s * w + i) 0)) (getD t (r * w + i) 0)
+      ≡ all (upTo (64 * w)) (λ b. not (member t w r b) || member u w s b)
+  subset-last i e l v =
+      last-decides (λ k. bitAnd (getD t (r * w + k) 0) (getD u (s * w + k) 0)) (λ k. getD t (r * w + k) 0) e v
+      subset-of (λ h. subset-in h i (omega arith) l)
+
   -- they are the same if each word is
   pub same-of : ((k : ℕ) → k < w → getD t (r * w + k) 0 ≡ getD u (s * w + k) 0)
       → all (upTo (64 * w)) (λ b. Bool·beq (member t w r b) (member u w s b)) ≡ true
@@ -278,6 +294,12 @@ module _ (t : List ℕ) (r : ℕ) (u : List ℕ) (s w : ℕ) where
       → all (upTo (64 * w)) (λ b. Bool·beq (member t w r b) (member u w s b)) ≡ false
   same-fails k h l m n =
       fails (all (upTo (64 * w)) (λ b. Bool·beq (member t w r b) (member u w s b))) (λ e. n (same-in e k h l m))
+
+  pub same-last : (i : ℕ) → w ≡ i + 1 → getD t (r * w + i) 0 < 2 ^ 64 → getD u (s * w + i) 0 < 2 ^ 64
+      → Passed (λ k. getD t (r * w + k) 0 ≡ getD u (s * w + k) 0) w i
+      → eqb (getD t (r * w + i) 0) (getD u (s * w + i) 0) ≡ all (upTo (64 * w)) (λ b. Bool·beq (member t w r b) (member u w s b))
+  same-last i e l m v =
+      last-decides (λ k. getD t (r * w + k) 0) (λ k. getD u (s * w + k) 0) e v same-of (λ h. same-in h i (omega arith) l m)
 
 -- The numbers of one word more that pass a test are the bits of a word that agrees with the test
 pub count-word : (f : ℕ → Bool) (x n k : ℕ) → ((j : ℕ) → j < k → f (n + j) ≡ bit x j) → count (upTo (n + k)) f ≡ count (upTo n) f + count (upTo k) (bit x)
@@ -329,3 +351,11 @@ module _ {t : List ℕ} {r : ℕ} {u : List ℕ} {s w : ℕ} where
 
   pub counted-done : {i n : ℕ} → w ≤ i → CountedTo t r u s w i n → n ≡ count (upTo (64 * w)) (λ b. member t w r b && member u w s b)
   counted-done {i} {n} h v = let e : w ≡ i = omega arith in v .right ∙ ap (λ k. count (upTo (64 * k)) (λ b. member t w r b && member u w s b)) (sym e)
+
+-- two words at once
+pub counted-two : (t : List ℕ) (r : ℕ) (u : List ℕ) (s : ℕ) → ((k : ℕ) → getD t k 0 < 2 ^ 64)
+    → CountedTo t r u s 2 2 (ones (bitAnd (getD t (r * 2) 0) (getD u (s * 2) 0)) + ones (bitAnd (getD t (r * 2 + 1) 0) (getD u (s * 2 + 1) 0)))
+counted-two t r u s f =
+    let one : CountedTo t r u s 2 1 (0 + ones (bitAnd (getD t (r * 2 + 0) 0) (getD u (s * 2 + 0) 0))) =
+    counted-more (omega arith) (f (r * 2 + 0)) counted-none in
+    counted-more (omega arith) (f (r * 2 + 1)) (simp (add-zero, zero-add) at one)

@@ -99,8 +99,29 @@ pub fn copy(t: &mut [u64], u: &[u64])
     }
 }
 
-// Whether all of row r of t is in row s of u.
+// Whether all of row r of t is in row s of u. Rows of two words go without a loop, here and below, as in `join`.
 pub fn is_subset(t: &[u64], r: usize, u: &[u64], s: usize, w: usize) -> bool
+    requires { ⌜ Row (now t) w r ⌝ }
+    requires { ⌜ Row (now u) w s ⌝ }
+    ensures { λ x. ⌜ x ≡ all (upTo (64 * w)) (λ b. not (member (now (t .entry)) w r b) || member (now (u .entry)) w s b) ⌝ }
+{
+    if w == 2 {
+        return subset_two(t, r, u, s);
+    }
+    subset_words(t, r, u, s, w)
+}
+
+fn subset_two(t: &[u64], r: usize, u: &[u64], s: usize) -> bool
+    requires { ⌜ Row (now t) 2 r ⌝ }
+    requires { ⌜ Row (now u) 2 s ⌝ }
+    ensures { λ x. ⌜ x ≡ all (upTo (64 * 2)) (λ b. not (member (now (t .entry)) 2 r b) || member (now (u .entry)) 2 s b) ⌝ }
+{
+    let low = t[r * 2];
+    let high = t[r * 2 + 1];
+    low & u[s * 2] == low && high & u[s * 2 + 1] == high
+}
+
+fn subset_words(t: &[u64], r: usize, u: &[u64], s: usize, w: usize) -> bool
     requires { ⌜ Row (now t) w r ⌝ }
     requires { ⌜ Row (now u) w s ⌝ }
     ensures { λ x. ⌜ x ≡ all (upTo (64 * w)) (λ b. not (member (now (t .entry)) w r b) || member (now (u .entry)) w s b) ⌝ }
@@ -122,6 +143,25 @@ pub fn is_same(t: &[u64], r: usize, s: usize, w: usize) -> bool
     requires { ⌜ Row (now t) w s ⌝ }
     ensures { λ x. ⌜ x ≡ all (upTo (64 * w)) (λ b. Bool·beq (member (now (t .entry)) w r b) (member (now (t .entry)) w s b)) ⌝ }
 {
+    if w == 2 {
+        return same_two(t, r, s);
+    }
+    same_words(t, r, s, w)
+}
+
+fn same_two(t: &[u64], r: usize, s: usize) -> bool
+    requires { ⌜ Row (now t) 2 r ⌝ }
+    requires { ⌜ Row (now t) 2 s ⌝ }
+    ensures { λ x. ⌜ x ≡ all (upTo (64 * 2)) (λ b. Bool·beq (member (now (t .entry)) 2 r b) (member (now (t .entry)) 2 s b)) ⌝ }
+{
+    t[r * 2] == t[s * 2] && t[r * 2 + 1] == t[s * 2 + 1]
+}
+
+fn same_words(t: &[u64], r: usize, s: usize, w: usize) -> bool
+    requires { ⌜ Row (now t) w r ⌝ }
+    requires { ⌜ Row (now t) w s ⌝ }
+    ensures { λ x. ⌜ x ≡ all (upTo (64 * w)) (λ b. Bool·beq (member (now (t .entry)) w r b) (member (now (t .entry)) w s b)) ⌝ }
+{
     let mut i = 0;
     while i < w {
         if t[r * w + i] != t[s * w + i] {
@@ -134,6 +174,28 @@ pub fn is_same(t: &[u64], r: usize, s: usize, w: usize) -> bool
 
 // How many numbers are both in row r of t and in row s of u: set bits, counted by ones.
 pub fn count_common(t: &[u64], r: usize, u: &[u64], s: usize, w: usize) -> usize
+    requires { ⌜ Row (now t) w r ⌝ }
+    requires { ⌜ Row (now u) w s ⌝ }
+    requires { ⌜ 64 * w < 2 ^ 64 ⌝ }
+    ensures { λ x. ⌜ x ≡ count (upTo (64 * w)) (λ b. member (now (t .entry)) w r b && member (now (u .entry)) w s b) ⌝ }
+{
+    if w == 2 {
+        return count_two(t, r, u, s);
+    }
+    count_words(t, r, u, s, w)
+}
+
+fn count_two(t: &[u64], r: usize, u: &[u64], s: usize) -> usize
+    requires { ⌜ Row (now t) 2 r ⌝ }
+    requires { ⌜ Row (now u) 2 s ⌝ }
+    ensures { λ x. ⌜ x ≡ count (upTo (64 * 2)) (λ b. member (now (t .entry)) 2 r b && member (now (u .entry)) 2 s b) ⌝ }
+{
+    let low = u64::count_ones(t[r * 2] & u[s * 2]) as usize;
+    let high = u64::count_ones(t[r * 2 + 1] & u[s * 2 + 1]) as usize;
+    low + high
+}
+
+fn count_words(t: &[u64], r: usize, u: &[u64], s: usize, w: usize) -> usize
     requires { ⌜ Row (now t) w r ⌝ }
     requires { ⌜ Row (now u) w s ⌝ }
     requires { ⌜ 64 * w < 2 ^ 64 ⌝ }

@@ -1,0 +1,13 @@
+-- `finding::parking::lays` meets its contract, operand by operand. Assumes nothing.
+use Rattle.finding.proofs.Laid.{other-object, other-subject, other-property, same-operands}
+use Rattle.finding.proofs.parking.lays.Statement.{statement}
+use Rattle.finding.proofs.parking.lays.Tie as tie
+
+pub lays-spec : {M : Type 1} → statement M
+lays-spec =
+    tie.close
+    (tie.spec
+    (λ c. search other-object)
+    (λ c. search other-subject)
+    (λ c. search other-property)
+    (λ c. search same-operands))
