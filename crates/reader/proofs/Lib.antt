@@ -1,8 +1,4 @@
--- The laws of reading: storing commands in the table of rows, noting the shapes that they name, what is found, the walk over the input.
+-- The laws of reading: storing commands in the table of rows, shapes that are not in the case, the walk over the input.
 pub mod Stores
-pub mod Noting
-pub mod Judging
-pub mod Headings
-pub mod Findings
-pub mod Laid
+pub mod Unknown
 pub mod Walking

@@ -1,11 +1,9 @@
--- The case in the table with one command more; and that a row says the command made of it. Assumes nothing.
+-- The case in the table with one command more. Assumes nothing.
 use Prim.Native.Nat.{ℕ, _+_, _*_, _≤_}
 use native.Mathlib.Omega.{arith}
 use mathlib.Core.Path.{_≡_, refl}
-use mathlib.Core.Bool.{Bool, true, false, cond}
 use mathlib.Core.List.{List}
 use lib.ListN.{length}
-use lib.Dec.{eqb}
 use Rattle.fixpoint.proofs.Lists.{tests}
 use Rattle.cases.specs.declared.command.Command.{Command}
 use Rattle.cases.specs.declared.command.Command.the-variants.{Nodes, End}
@@ -16,13 +14,14 @@ use Rattle.cases.specs.declared.command.Row.{Row}
 use Rattle.cases.specs.declared.command.ShapeRule.{ShapeRule}
 use Rattle.cases.specs.declared.command.Target.{Target}
 use Rattle.cases.specs.declared.counts.Counts.{Counts}
-use Rattle.cases.specs.Format.{edgeOf, pathRuleOf, shapeRuleOf, targetOf, commandOf}
+use Rattle.cases.specs.Format.{edgeOf, pathRuleOf, shapeRuleOf, targetOf}
 use Rattle.cases.specs.Reading.{add}
 use Rattle.cases.specs.Rows.{edgeIn, pathIn, shapeIn, targetIn, caseIn}
 use Rattle.cases.proofs.Profiles.{shapes-at-most}
 use Rattle.parts.specs.Tables.{putRow}
 use Rattle.parts.proofs.Stores.{length-putRow, kind-kept, kind-more}
-use Rattle.reader.specs.Storing.{says, StoreRoom, Stored}
+use Rattle.finding.specs.Finding.{says}
+use Rattle.reader.specs.Storing.{StoreRoom, Stored}
 
 -- What storing a command leaves, kind by kind
 pub stored-nodes : {command : Command} {n : ℕ} {k : Counts} {rows : List ℕ} → command ≡ Nodes n
@@ -114,18 +113,3 @@ module _ {k : Counts} {rows rows′ : List ℕ} {r : Row} where
             );
         long = rw put (length-putRow rows at r);
       }
-
--- A row says the command that is made of it
-says-one : (r : Row) (a b c d e : Bool)
-    → says r (cond a (Nodes (r .1)) (cond b (EdgeCommand (edgeOf r)) (cond c (PathCommand (pathRuleOf r)) (cond d (ShapeCommand (shapeRuleOf r)) (cond e (TargetCommand (targetOf r)) End)))))
-unfolding says
-says-one r true b c d e = tt
-says-one r false true c d e = refl
-says-one r false false true d e = refl
-says-one r false false false true e = refl
-says-one r false false false false true = refl
-says-one r false false false false false = tt
-
-pub says-command : (group : ℕ) (r : Row) → says r (commandOf group r)
-unfolding commandOf
-says-command group r = says-one r (eqb group 1) (eqb group 2) (eqb group 3) (eqb group 4) (eqb group 5)

@@ -38,13 +38,13 @@ use Rattle.parts.specs.Expanding.{withShapes, ExpandedAs}
 use Rattle.parts.specs.Tables.{rulesIn, namedIn}
 use Rattle.parts.proofs.Renumbering.{expansion-moved}
 use Rattle.parts.proofs.Stores.{length-rulesIn}
-use Rattle.reader.specs.declared.finding.Finding.{Finding}
-use Rattle.reader.specs.declared.finding.Reached.{Reached}
-use Rattle.reader.specs.Finding.{nothingReached, RowRoom, FindRoom, Stands, entryCommand, entryInside, entryNames, isShape, isShapeEntry, Adds, StepIs, FoundAs}
+use Rattle.finding.specs.declared.finding.Finding.{Finding}
+use Rattle.finding.specs.declared.finding.Reached.{Reached}
+use Rattle.finding.specs.Finding.{nothingReached, RowRoom, FindRoom, Stands, entryCommand, entryInside, entryNames, isShape, isShapeEntry, Adds, StepIs, FoundAs}
+use Rattle.finding.proofs.Findings.{few-references, rules-count}
 use Rattle.reader.specs.Parsing.{refusedAs, endFault, EndRoom, EndedAs, ParsedAs}
 use Rattle.reader.specs.Storing.{StoredWithin, StoreRoom, Stored}
-use Rattle.reader.proofs.Findings.{few-references, rules-count}
-use Rattle.reader.proofs.Noting.{length-named}
+use Rattle.reader.proofs.Unknown.{length-named}
 
 -- ---- One step of the walk
 

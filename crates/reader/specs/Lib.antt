@@ -1,4 +1,3 @@
 -- What the functions that read need and leave.
 pub mod Storing
-pub mod Finding
 pub mod Parsing

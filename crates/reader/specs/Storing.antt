@@ -5,24 +5,13 @@ use mathlib.Core.Bool.{true}
 use mathlib.Core.List.{List}
 use lib.ListN.{length}
 use Rattle.cases.specs.declared.command.Command.{Command}
-use Rattle.cases.specs.declared.command.Command.the-variants.{Nodes, End}
-use Rattle.cases.specs.declared.command.Command.the-variants.{Edge as EdgeCommand, Path as PathCommand, Shape as ShapeCommand, Target as TargetCommand}
 use Rattle.cases.specs.declared.command.Row.{Row}
 use Rattle.cases.specs.declared.counts.Counts.{Counts}
 use Rattle.cases.specs.Counts.{edgeLimit, pathLimit, targetLimit}
-use Rattle.cases.specs.Format.{edgeOf, pathRuleOf, shapeRuleOf, targetOf}
 use Rattle.cases.specs.Faults.{withinLimit}
 use Rattle.cases.specs.Reading.{add}
 use Rattle.cases.specs.Rows.{caseIn, Full}
-
--- the row says the command
-unfoldable pub says : Row → Command → Type 0
-says r (Nodes n) = Unit {0}
-says r (EdgeCommand e) = edgeOf r ≡ e
-says r (PathCommand p) = pathRuleOf r ≡ p
-says r (ShapeCommand s) = shapeRuleOf r ≡ s
-says r (TargetCommand t) = targetOf r ≡ t
-says r End = Unit {0}
+use Rattle.finding.specs.Finding.{says}
 
 -- each kind is within the rows that the table has for it
 pub record StoredWithin (counts : Counts) : Type 0 where

@@ -1,10 +1,5 @@
 // One walk over the input, under the profile that it begins with. Its invariant: the tables hold the commands before `at`, none of them at
 // fault, and what the whole input comes to is what the walk comes to from there.
-use crate::finding::Reached;
-use crate::finding::find;
-use crate::finding::nothing_reached;
-use crate::heading::heading;
-use crate::heading::heading_number;
 use crate::storing::store;
 use cases::answers::Heading;
 use cases::answers::Parsed;
@@ -15,6 +10,11 @@ use cases::answers::no_refusal;
 use cases::answers::number_of;
 use cases::command::Command;
 use cases::counts::no_counts;
+use finding::finding::Reached;
+use finding::finding::find;
+use finding::finding::nothing_reached;
+use finding::heading::heading;
+use finding::heading::heading_number;
 use parts::expanding::expand;
 ghost use mathlib.Core.Path.{_≡_};
 ghost use Prim.Native.Nat.{_*_, _≤_};

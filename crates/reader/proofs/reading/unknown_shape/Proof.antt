@@ -3,7 +3,7 @@ use lib.ListN.{drop}
 use mathlib.Core.Path.{_≡_, refl, sym, _∙_}
 use native.Mathlib.Omega.{arith}
 use Prim.Native.Nat.{_≤_, _-_}
-use Rattle.reader.proofs.Noting.{unknown-here, unknown-later, unknown-none}
+use Rattle.reader.proofs.Unknown.{unknown-here, unknown-later, unknown-none}
 use Rattle.parts.specs.Tables.{namedIn}
 use Rattle.cases.specs.Reading.{unknownShape}
 use borrow.Author.Needs.{needs}
