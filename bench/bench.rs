@@ -1,5 +1,5 @@
-//! Times of read, solve, check and rank from 16 to 512 nodes, beside clingo and SWI-Prolog on the same cases, all in one run; then how the time of solve grows from size to size. Prints Markdown tables.
-//! The solvers get the paths worked out: clingo ground rules, SWI-Prolog as facts the fillers of the paths that shapes name. Their times hold their start; the judge's are those of a call. All are times of the processor.
+//! Times of read, solve, check and rank from 16 to 512 nodes, beside clingo, clasp and SWI-Prolog on the same cases, all in one run; then how the time of solve grows from size to size. Prints Markdown tables.
+//! The solvers get the paths worked out: clingo ground rules, clasp what gringo has made of these beforehand, SWI-Prolog as facts the fillers of the paths that shapes name. Their times hold their start; the judge's are those of a call. All are times of the processor.
 
 #[allow(dead_code)]
 #[path = "../tests/differential/generator.rs"]
@@ -126,7 +126,7 @@ fn run_here(limit: f64, command: &[String]) {
     print!("{} {}", own + system + (own_millionths + system_millionths) / 1e6, usage.peak);
 }
 
-/// The pairs of an atom in the last answer that clingo wrote.
+/// The pairs of an atom in the last answer that clingo or clasp wrote.
 fn last_answer(case: &Case, name: &str) -> Vec<bool> {
     let out = std::fs::read_to_string(OUT).unwrap();
     let lines: Vec<&str> = out.lines().collect();
@@ -149,32 +149,94 @@ fn agree(what: &str, same: bool) {
     }
 }
 
-/// The doubled rules of a case, ground: v for valid, p for valid or undetermined.
-fn ground(case: &Case) -> String {
-    let mut text = String::new();
-    for (s, shape) in case.shapes.iter().enumerate() {
+/// An atom of the doubled rules: v for valid, p for valid or undetermined, and the pair.
+type Atom = (char, usize, usize);
+
+enum Body {
+    /// all of these, or where it is so said their denials
+    Literals(Vec<(bool, Atom)>),
+    Least(usize, Vec<Atom>),
+}
+
+/// A rule, or where it has no head what must not be.
+type Rule = (Option<Atom>, Body);
+
+/// The doubled rules of a case, ground.
+fn ground(case: &Case) -> Vec<Rule> {
+    let mut rules = Vec::new();
+    for s in 0..case.shapes.len() {
         for a in 0..case.nodes {
-            for (own, other) in [("v", "p"), ("p", "v")] {
-                let atom = |t: usize, b: usize| format!("{own}({t},{b})");
-                let atoms = |p: usize, t: usize, by: &str| case.fillers(p, a).iter().map(|b| atom(t, *b)).collect::<Vec<_>>().join(by);
-                let bodies = match *shape {
-                    Shape::Top => vec![String::new()],
-                    Shape::Node(b) => if a == b { vec![String::new()] } else { vec![] },
-                    Shape::Same(p, q) => if case.fillers(p, a) == case.fillers(q, a) { vec![String::new()] } else { vec![] },
-                    Shape::And(t, u) => vec![format!("{},{}", atom(t, a), atom(u, a))],
-                    Shape::Or(t, u) => vec![atom(t, a), atom(u, a)],
-                    Shape::Not(t) => vec![format!("not {other}({t},{a})")],
-                    Shape::All(p, t) => vec![atoms(p, t, ",")],
-                    Shape::AtLeast(n, p, t) => if case.fillers(p, a).len() < n { vec![] } else { vec![format!("{n}{{{}}}", atoms(p, t, ";"))] },
-                };
-                for body in bodies {
-                    text += &if body.is_empty() { format!("{own}({s},{a}).\n") } else { format!("{own}({s},{a}):-{body}.\n") };
-                }
+            for (own, other) in [('v', 'p'), ('p', 'v')] {
+                rules.extend(bodies(case, s, a, own, other).into_iter().map(|body| (Some((own, s, a)), body)));
             }
-            text += &format!(":-v({s},{a}),not p({s},{a}).\n");
+            rules.push((None, Body::Literals(vec![(false, ('v', s, a)), (true, ('p', s, a))])));
         }
     }
+    rules
+}
+
+/// What a pair may hold by: references are to atoms of its own sort, nots to those of the other.
+fn bodies(case: &Case, s: usize, a: usize, own: char, other: char) -> Vec<Body> {
+    let here = |t: usize| (false, (own, t, a));
+    let fillers = |p: usize, t: usize| case.fillers(p, a).iter().map(|b| (own, t, *b)).collect::<Vec<Atom>>();
+    let only_if = |holds: bool, body: Vec<(bool, Atom)>| if holds { vec![Body::Literals(body)] } else { vec![] };
+    match case.shapes[s] {
+        Shape::Top => only_if(true, vec![]),
+        Shape::Node(b) => only_if(a == b, vec![]),
+        Shape::Same(p, q) => only_if(case.fillers(p, a) == case.fillers(q, a), vec![]),
+        Shape::And(t, u) => vec![Body::Literals(vec![here(t), here(u)])],
+        Shape::Or(t, u) => [t, u].map(|t| Body::Literals(vec![here(t)])).into(),
+        Shape::Not(t) => vec![Body::Literals(vec![(true, (other, t, a))])],
+        Shape::All(p, t) => vec![Body::Literals(fillers(p, t).into_iter().map(|atom| (false, atom)).collect())],
+        Shape::AtLeast(n, p, t) if n <= case.fillers(p, a).len() => vec![Body::Least(n, fillers(p, t))],
+        Shape::AtLeast(..) => vec![],
+    }
+}
+
+fn name((sort, s, a): Atom) -> String {
+    format!("{sort}({s},{a})")
+}
+
+/// Rules as clingo and gringo read them.
+fn as_program(rules: &[Rule]) -> String {
+    let literal = |(denied, atom): &(bool, Atom)| format!("{}{}", if *denied { "not " } else { "" }, name(*atom));
+    let mut text = String::new();
+    for (head, body) in rules {
+        let body = match body {
+            Body::Literals(literals) => literals.iter().map(literal).collect::<Vec<_>>().join(","),
+            Body::Least(n, atoms) => format!("{n}{{{}}}", atoms.iter().map(|atom| name(*atom)).collect::<Vec<_>>().join(";")),
+        };
+        let head = head.map_or("".to_string(), name);
+        text += &if body.is_empty() { format!("{head}.\n") } else { format!("{head}:-{body}.\n") };
+    }
     text
+}
+
+/// The same rules as clasp reads them, atoms by number, as gringo would write them if it changed nothing.
+fn as_ground_program(case: &Case, rules: &[Rule]) -> String {
+    let number = |(sort, s, a): Atom| 1 + case.pair(s, a) + if sort == 'p' { case.pairs() } else { 0 };
+    let mut text = "asp 1 0 0\n".to_string();
+    for (head, body) in rules {
+        text += &head.map_or("1 0 0".to_string(), |atom| format!("1 0 1 {}", number(atom)));
+        match body {
+            Body::Literals(literals) => {
+                text += &format!(" 0 {}", literals.len());
+                literals.iter().for_each(|(denied, atom)| text += &format!(" {}{}", if *denied { "-" } else { "" }, number(*atom)));
+            }
+            Body::Least(n, atoms) => {
+                text += &format!(" 1 {n} {}", atoms.len());
+                atoms.iter().for_each(|atom| text += &format!(" {} 1", number(*atom)));
+            }
+        }
+        text += "\n";
+    }
+    for pair in 0..case.pairs() {
+        for sort in ['v', 'p'] {
+            let atom = (sort, pair / case.nodes, pair % case.nodes);
+            text += &format!("4 {} {} 1 {}\n", name(atom).len(), name(atom), number(atom));
+        }
+    }
+    text + "0\n"
 }
 
 /// The paths that shapes name: a solver need not read the fillers of others.
@@ -236,39 +298,80 @@ impl Judged {
     }
 }
 
-/// The same case with the solvers: clingo for one stable assignment, clingo for what solve answers, SWI-Prolog. Where they end in time they have to agree with the values.
-fn beside(limit: f64, case: &Case, values: &[u8]) -> [Run; 3] {
-    let lp = file("case.lp", ground(case).as_bytes());
-    let pl = file("case.pl", prolog(case).as_bytes());
-    let clingo = |words: &[&str]| run(limit, &[&["clingo", "--warn=none", &lp], words].concat());
-    let one = clingo(&["1"]);
-    let cautious = clingo(&["0", "--enum-mode=cautious"]);
+/// The same case with the solvers, in the order of the columns. Where they end in time they have to agree with the values. Clasp gets what gringo makes of the rules, unless gringo is not asked or not ready in time.
+fn beside(limit: f64, ask_gringo: bool, case: &Case, values: &[u8]) -> Beside {
+    let rules = ground(case);
+    let lp = file("case.lp", as_program(&rules).as_bytes());
+    let [one, solved] = by_answers("clingo", limit, &["clingo", "--warn=none", &lp], case, values);
+    let by_gringo = if ask_gringo { grounded(limit, &lp) } else { None };
+    let as_written = by_gringo.is_none();
+    let aspif = by_gringo.unwrap_or_else(|| file("case.aspif", as_ground_program(case, &rules).as_bytes()));
+    let [clasp_one, clasp_solved] = by_answers("clasp", limit, &[clasp(), &[&aspif]].concat(), case, values);
+    Beside { runs: [one, solved, clasp_one, clasp_solved, by_tabling(limit, case, values)], as_written }
+}
+
+struct Beside {
+    runs: [Run; 5],
+    /// whether clasp got the rules as they stand
+    as_written: bool,
+}
+
+/// clasp, or where there is none the clasp inside clingo.
+fn clasp() -> &'static [&'static str] {
+    let there = Command::new("clasp").arg("--version").stdout(Stdio::null()).status().is_ok();
+    if there { &["clasp"] } else { &["clingo", "--mode=clasp"] }
+}
+
+/// An answer-set solver for one stable assignment, and for what solve answers: what all of them have and what any has.
+fn by_answers(name: &str, limit: f64, command: &[&str], case: &Case, values: &[u8]) -> [Run; 2] {
+    let solver = |words: &[&str]| run(limit, &[command, words].concat());
+    let one = solver(&["1"]);
+    let cautious = solver(&["0", "--enum-mode=cautious"]);
     if cautious.is_some() {
-        agree("clingo", last_answer(case, "v").iter().zip(values).all(|(sure, v)| *sure == (*v == 2)));
+        agree(name, last_answer(case, "v").iter().zip(values).all(|(sure, v)| *sure == (*v == 2)));
     }
-    let brave = if cautious.is_some() { clingo(&["0", "--enum-mode=brave"]) } else { None };
+    let brave = if cautious.is_some() { solver(&["0", "--enum-mode=brave"]) } else { None };
     if brave.is_some() {
-        agree("clingo", last_answer(case, "p").iter().zip(values).all(|(possible, v)| *possible == (*v > 0)));
+        agree(name, last_answer(case, "p").iter().zip(values).all(|(possible, v)| *possible == (*v > 0)));
     }
-    let solved = cautious.zip(brave).map(|(c, b)| (c.0 + b.0, c.1.max(b.1)));
+    [one, cautious.zip(brave).map(|(c, b)| (c.0 + b.0, c.1.max(b.1)))]
+}
+
+/// What clasp reads, made by gringo from the ground rules; none where gringo is not ready in time. Its time counts against nobody, though it does part of the work: what follows without search it settles, and clasp gets it as facts.
+fn grounded(limit: f64, lp: &str) -> Option<String> {
+    run(limit, &["gringo", "--warn=none", lp])?;
+    let aspif = "target/tests/bench/case.aspif";
+    std::fs::rename(OUT, aspif).expect(aspif);
+    Some(aspif.to_string())
+}
+
+fn by_tabling(limit: f64, case: &Case, values: &[u8]) -> Run {
+    let pl = file("case.pl", prolog(case).as_bytes());
     let swipl = run(limit, &["swipl", "--stack-limit=8g", "-q", "-f", &pl]);
     if swipl.is_some() {
         let text: String = values.iter().map(|v| v.to_string()).collect();
         agree("SWI-Prolog", std::fs::read_to_string(OUT).unwrap().trim() == format!("0 {text}"));
     }
-    [one, solved, swipl]
+    swipl
 }
 
-/// Their times, those in parts of solve's, and what memory the last two took.
-fn solver_cells(limit: f64, solve: f64, runs: [Run; 3]) -> Vec<String> {
-    let shown = runs.map(|run| run.map_or(format!("> {limit} s"), |(s, _)| time(s)));
+/// Their times, those in parts of solve's, and what memory they took for what solve answers.
+fn solver_cells(limit: f64, solve: f64, Beside { runs, as_written }: Beside) -> Vec<String> {
+    let mut times = runs.map(|run| run.map_or(format!("> {limit} s"), |(s, _)| time(s)));
+    if as_written {
+        times[2..4].iter_mut().for_each(|cell| *cell += " *");
+    }
     let ratios = runs.map(|run| run.map_or(format!("> {}", parts(limit / solve)), |(s, _)| parts(s / solve)));
-    let memory = runs.map(|run| run.map_or("".to_string(), |(_, kilobytes)| megabytes(kilobytes)));
-    [&shown[..], &ratios, &memory[1..]].concat()
+    let memory = [1, 3, 4].map(|i| runs[i].map_or("".to_string(), |(_, kilobytes)| megabytes(kilobytes)));
+    [&times[..], &ratios, &memory].concat()
 }
 
 fn parts(ratio: f64) -> String {
-    if ratio < 10.0 { format!("{ratio:.1}") } else { format!("{ratio:.0}") }
+    match ratio {
+        r if r < 0.1 => format!("{r:.2}"),
+        r if r < 10.0 => format!("{r:.1}"),
+        r => format!("{r:.0}"),
+    }
 }
 
 fn megabytes(kilobytes: usize) -> String {
@@ -285,7 +388,11 @@ fn file(name: &str, content: &[u8]) -> String {
 // ---- The tables
 
 const JUDGE: [&str; 9] = ["case", "nodes", "rounds", "highest level", "read", "rank", "check", "solve", "judge MB"];
-const SOLVERS: [&str; 8] = ["clingo, one", "clingo, solved", "SWI-Prolog", "clingo, one / solve", "clingo, solved / solve", "SWI-Prolog / solve", "clingo MB", "SWI-Prolog MB"];
+const SOLVERS: [&str; 13] = [
+    "clingo, one", "clingo, solved", "clasp, one", "clasp, solved", "SWI-Prolog",
+    "clingo, one / solve", "clingo, solved / solve", "clasp, one / solve", "clasp, solved / solve", "SWI-Prolog / solve",
+    "clingo MB", "clasp MB", "SWI-Prolog MB",
+];
 
 fn line(cells: &[String]) {
     println!("| {} |", cells.join(" | "));
@@ -301,20 +408,26 @@ fn starts(limit: f64) {
     let empty = file("empty.lp", b"");
     let halt = file("empty.pl", b":- initialization(halt).\n");
     let least = |runs: Vec<Run>| runs.into_iter().flatten().min_by(|a, b| a.0.total_cmp(&b.0)).unwrap_or((0.0, 0));
-    let clingo = least((0..5).map(|_| run(limit, &["clingo", &empty])).collect());
-    let swipl = least((0..5).map(|_| run(limit, &["swipl", "-q", "-f", &halt])).collect());
-    println!("Start alone: clingo {} and {} MB, SWI-Prolog {} and {} MB; a bare process of the judge's {} MB.", time(clingo.0), megabytes(clingo.1), time(swipl.0), megabytes(swipl.1), megabytes(peak("")));
-    println!("A ratio is the solver's time, start included, to that of solve in the same run; > is a solver stopped after {limit} s. Clingo's 'one' finds any one stable assignment, 'solved' the cautious and the brave consequences, which is what solve answers.\n");
+    let grounded = grounded(limit, &empty).expect("gringo");
+    let alone = |command: &[&str]| {
+        let (seconds, kilobytes) = least((0..5).map(|_| run(limit, command)).collect());
+        format!("{} and {} MB", time(seconds), megabytes(kilobytes))
+    };
+    let (clingo, swipl) = (alone(&["clingo", &empty]), alone(&["swipl", "-q", "-f", &halt]));
+    println!("Start alone: clingo {clingo}, {} {}, SWI-Prolog {swipl}; a bare process of the judge's {} MB.", clasp().join(" "), alone(&[clasp(), &[&grounded]].concat()), megabytes(peak("")));
+    println!("A ratio is the solver's time, start included, to that of solve in the same run; > is a solver stopped after {limit} s. 'One' finds any one stable assignment, 'solved' the cautious and the brave consequences, which is what solve answers. What clasp reads was made by gringo beforehand, which does not count, though gringo settles all that follows without search; * is where clasp got the ground rules as they stand, since gringo was not ready after {limit} s or not asked.\n");
 }
 
-/// How solve's times grow, by family and size. Where a family has several cases of a size, that of the one in the middle.
-fn growth(sizes: &[usize], grown: &[(&str, Vec<f64>)]) {
+/// How solve's times grow, by family and size. Where a family has several cases of a size, that of the one in the middle; where it has none, nothing.
+fn growth(sizes: &[usize], grown: &[(&str, Vec<Option<f64>>)]) {
     println!("\nHow the time of solve grows from {} to {} nodes, and how many times that of the size before it is:\n", sizes[0], sizes[sizes.len() - 1]);
     let in_parts = sizes.windows(2).flat_map(|pair| [pair[1].to_string(), format!("{} / {}", pair[1], pair[0])]);
     header(&["case".to_string(), sizes[0].to_string()].into_iter().chain(in_parts).collect::<Vec<_>>());
+    let shown = |solve: Option<f64>| solve.map_or("".to_string(), time);
     for (name, solves) in grown {
-        let in_parts = solves.windows(2).flat_map(|pair| [time(pair[1]), parts(pair[1] / pair[0])]);
-        line(&[name.to_string(), time(solves[0])].into_iter().chain(in_parts).collect::<Vec<_>>());
+        let ratio = |pair: &[Option<f64>]| pair[0].zip(pair[1]).map_or("".to_string(), |(before, after)| parts(after / before));
+        let in_parts = solves.windows(2).flat_map(|pair| [shown(pair[1]), ratio(pair)]);
+        line(&[name.to_string(), shown(solves[0])].into_iter().chain(in_parts).collect::<Vec<_>>());
     }
 }
 
@@ -325,7 +438,7 @@ fn main() {
         [word, limit, command @ ..] if word == "--run" => return run_here(limit.parse().unwrap(), command),
         _ => {}
     }
-    let alone = words.contains(&"--alone".to_string());
+    let [alone, as_written] = ["--alone", "--as-written"].map(|name| words.contains(&name.to_string()));
     let limit: f64 = word(&words, "--limit").map_or(20.0, |w| w.parse().expect("--limit SECONDS"));
     std::fs::create_dir_all("target/tests/bench").expect("target/tests/bench");
     if !alone {
@@ -343,11 +456,11 @@ fn main() {
                 let case = reference::read(&bytes).expect("a sound case");
                 let judged = judged(&bytes, case.pairs());
                 solves.push(judged.solve);
-                let solvers = if alone { vec![] } else { solver_cells(limit, judged.solve, beside(limit, &case, &judged.values)) };
+                let solvers = if alone { vec![] } else { solver_cells(limit, judged.solve, beside(limit, !as_written, &case, &judged.values)) };
                 line(&[vec![name.to_string(), n.to_string()], judged.cells(), solvers].concat());
             }
             solves.sort_by(f64::total_cmp);
-            by_size.push(middle(&solves));
+            by_size.push((!solves.is_empty()).then(|| middle(&solves)));
         }
         grown.push((name, by_size));
     }

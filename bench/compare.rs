@@ -150,6 +150,6 @@ fn compare(libraries: &[Library; 2], calls: &[&str], turns: usize, family: &str,
     }
     let taken = |seconds: f64, shown: String| if seconds.is_finite() { shown } else { "–".to_string() };
     let after: Vec<String> = least[1].iter().map(|s| taken(*s, time(*s))).collect();
-    let ratios: Vec<String> = least[0].iter().zip(&least[1]).map(|(before, after)| taken(before + after, format!("{:.2}", after / before))).collect();
+    let ratios: Vec<String> = least[0].iter().zip(&least[1]).map(|(before, after)| taken(before + after, format!("{:.3}", after / before))).collect();
     println!("| {family} | {n} | {} | {} |", after.join(" | "), ratios.join(" | "));
 }

@@ -1,12 +1,21 @@
 //! The families of cases that are measured, which of them the command line asks for, and the times of repeated calls.
 
+#[path = "pieces.rs"]
+pub mod pieces;
+
 use crate::generator::*;
+use pieces::{built, fused, heavy, ladder, light, open_from_one, read, vain, watchers, Plan};
 use std::time::{Duration, Instant};
 
-const FAMILIES: [&str; 19] = [
-    "random", "positive chain", "denial chain", "both chains", "open chain", "open beside denials", "open after denials", "dense, star", "deep paths",
+const FAMILIES: [&str; 33] = [
+    "random", "positive chain", "denial chain", "both chains", "open chain", "open beside denials", "open after denials",
+    "open after few denials", "open from one, forward", "open from one, reversed", "light readers, forward", "light readers, reversed", "heavy readers, forward", "heavy readers, reversed", "vain readers, reversed", "fused, forward", "fused, reversed", "watchers", "ladders, forward", "ladders, reversed", WORST,
+    "dense, star", "deep paths",
     "feeder, chain", "feeder, ring", "feeder, tree", "feeder, stars in stars", "feeder, star of a sequence", "feeder, sequences of a star", "feeder, 7 paths", "feeder, 8 paths", "feeder, 16 paths", "parks of the last edge",
 ];
+
+/// What bench/search has stored.
+const WORST: &str = "worst found";
 
 /// How many cases a family has at one size. What paths it draws decides how long a case takes.
 fn seeds(name: &str) -> u64 {
@@ -32,8 +41,9 @@ fn family(name: &str, n: usize, seed: u64) -> Vec<u8> {
         "both chains" => both_chains(n, more, less),
         "open chain" => open_chain(n, less, more),
         "open beside denials" => open_beside_denials(n, more, less),
-        "open after denials" if shapes == 8 => open_after_denials_in_eight(n),
+        "open after denials" | "open after few denials" if shapes == 8 => open_after_denials_in_eight(n),
         "open after denials" => open_after_denials(n, more, less),
+        "open after few denials" => open_after_denials(n, shapes - 3, 3),
         "dense, star" => dense_star(r, n),
         "feeder, chain" => feeder(n, Feeder::Chain, STAR),
         "feeder, ring" => feeder(n, Feeder::Ring, STAR),
@@ -47,6 +57,25 @@ fn family(name: &str, n: usize, seed: u64) -> Vec<u8> {
         "feeder, 16 paths" => feeder_of_steps(n, 16),
         "parks of the last edge" => parked_last(n),
         _ => deep_paths(r, n, &[0x13, 0x13, 0x14]),
+    })
+}
+
+/// The plan of a family that is built from pieces. Forward, the chain walks along ascending nodes and is numbered before what reads it; reversed, it walks along descending nodes, and all shapes are numbered the other way round.
+fn plan(name: &str, n: usize) -> Option<Plan> {
+    Some(match name {
+        "open from one, forward" => open_from_one(n, true),
+        "open from one, reversed" => open_from_one(n, false).reversed(),
+        "light readers, forward" => read(n, true, &light(true)),
+        "light readers, reversed" => read(n, false, &light(false)).reversed(),
+        "heavy readers, forward" => read(n, true, &heavy(n, true)),
+        "heavy readers, reversed" => read(n, false, &heavy(n, false)).reversed(),
+        "vain readers, reversed" => read(n, false, &vain(false)).reversed(),
+        "fused, forward" => fused(n, true),
+        "fused, reversed" => fused(n, false).reversed(),
+        "watchers" => watchers(n),
+        "ladders, forward" => ladder(n, false),
+        "ladders, reversed" => ladder(n, true).reversed(),
+        _ => return None,
     })
 }
 
@@ -89,9 +118,27 @@ pub fn sizes(words: &[String]) -> Vec<usize> {
     sizes.split(',').map(|n| n.parse().expect("--nodes 16,32")).collect()
 }
 
-/// The cases of a family at a size.
+/// The cases of a family at a size. Where no search has been, there is no worst one.
 pub fn cases(name: &str, n: usize) -> Vec<Vec<u8>> {
-    (1..=seeds(name)).map(|seed| family(name, n, seed)).collect()
+    if name == WORST {
+        return stored(n).into_iter().collect();
+    }
+    match plan(name, n) {
+        Some(plan) => vec![built(&plan).expect("a plan within the limits")],
+        None => (1..=seeds(name)).map(|seed| family(name, n, seed)).collect(),
+    }
+}
+
+/// The file of the worst case that a search has found: its bytes in hexadecimal, with '#' comments, as scripts/bytes reads it.
+pub fn worst_file(n: usize) -> String {
+    format!("bench/worst-{n}.txt")
+}
+
+/// That case, if there is one.
+pub fn stored(n: usize) -> Option<Vec<u8>> {
+    let text = std::fs::read_to_string(worst_file(n)).ok()?;
+    let digits = text.lines().map(|line| line.split('#').next().unwrap_or("")).flat_map(str::split_whitespace);
+    Some(digits.map(|byte| u8::from_str_radix(byte, 16).expect("a byte in hexadecimal")).collect())
 }
 
 // ---- Times

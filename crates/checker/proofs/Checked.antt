@@ -20,9 +20,8 @@ use Rattle.semantics.specs.Values.{pairCount, byteSays, saidNumber, isValue, su
 use Rattle.semantics.specs.declared.value.Said.{Said}
 use Rattle.semantics.proofs.Refusing.{zero-cases, orElse-next, orElse-this, unless-none, unless-place, refuse-none, first-refuses, Well, well-first, well-all, well-of}
 use Rattle.checker.specs.Sets.{Threshold, Proposed}
-use Rattle.checker.specs.Checking.{valueFaultIn, ProposedUnless, LevelRoom, LevelsChecked}
+use Rattle.checker.specs.Checking.{valueFaultIn, ProposedUnless, unsupported, LevelRoom, LevelsChecked}
 use Rattle.semantics.specs.OldCode.{supportFault}
-use Rattle.checker.proofs.Supported.{unsupported}
 
 -- ---- Two passes for one
 
@@ -96,9 +95,9 @@ level-room p l = record { valid-there = p .valid-set .long; possible-there = p .
 module _ {counts : Counts} {rows sets : List ℕ} (t : Tables counts rows sets) (values : List ℕ) where
   -- the pass for 14 ends at its first refusal
   supported-ends : {m : ℕ} {u : Refusal} → u ≡ supportFault (caseIn counts rows) values → m ≡ cond (eqb (u .number) 0) (counts .shapes * counts .nodes) (u .place)
-      → PassEnds (unsupported (caseIn counts rows) values) (counts .shapes * counts .nodes) m u
+      → PassEnds (unsupported counts rows values) (counts .shapes * counts .nodes) m u
   supported-ends e i =
-      pass-ends (unsupported (caseIn counts rows) values) (λ k n. unless-place (supportedAt (caseIn counts rows) values k) 14 k n .1) (rw (pair-count t) at e) i
+      pass-ends (unsupported counts rows values) (λ k n. unless-place (supportedAt (caseIn counts rows) values k) 14 k n .1) (rw (pair-count t) at e) i
 
   pub supported-few : {m : ℕ} {u : Refusal} → u ≡ supportFault (caseIn counts rows) values → m ≡ cond (eqb (u .number) 0) (counts .shapes * counts .nodes) (u .place)
       → m ≤ counts .shapes * counts .nodes
@@ -113,7 +112,7 @@ module _ {counts : Counts} {rows sets : List ℕ} (t : Tables counts rows sets) 
       let ends = supported-ends f i in
       o
       ∙ ap (λ y. orElse y u) (g .right values p (λ k h. unless-none (supportedAt (caseIn counts rows) values k) 14 k (omega arith) .0 (ends .well .each k h)))
-      ∙ two-passes (unsupported (caseIn counts rows) values) _ ends
+      ∙ two-passes (unsupported counts rows values) _ ends
       ∙ rw (← pair-count t)
 
   -- 13 comes before it

@@ -19,7 +19,8 @@ use Rattle.bitset.proofs.Bits.{bit-zero, bit-and, word-ext, ones-count}
 use Rattle.bitset.proofs.Members.{member-word, count-word}
 use Rattle.cases.specs.declared.counts.Size.{Size}
 use Rattle.rules.specs.Kernel.{Asked}
-use Rattle.checker.specs.Sets.{LevelRow, RowBelow, WordWhere}
+use Rattle.checker.specs.Digits.{DigitsUnless, LowerIn}
+use Rattle.checker.specs.Sets.{levelAt, isLow, LevelRow, RowBelow, WordWhere}
 
 -- ---- The passing numbers of a word: those outside `rest` are sorted out
 
@@ -62,6 +63,24 @@ module _ {test : ℕ → Bool} {word i : ℕ} where
     sorted-done e = record {
       bits = λ j h. v .bits j h ∙ ap (λ z. z && test (64 * i + j)) (ap (λ z. bit word j && not z) (ap (λ z. bit z j) e ∙ bit-zero j) ∙ and-true (bit word j));
     }
+
+-- ---- By digits, where some are used
+
+module _ {levels : List ℕ} {size : Size} {s : ℕ} {digits : List ℕ} {used : ℕ} (d : DigitsUnless levels size s digits used) {b : Bool} (f : b ≡ true → 0 < used) (y : b ≡ true) where
+  pub digits-long : 16 * size .words ≤ length digits
+  digits-long = d .right (f y) .there
+
+  pub digits-few : used ≤ 16
+  digits-few = d .right (f y) .few
+
+  pub lower-by-digits : {word i bound lower : ℕ} → Asked word i size → LowerIn digits (size .words) used i bound lower → WordWhere (isLow levels bound size s) word i (bitAnd word lower)
+  lower-by-digits {word} {i} {bound} {lower} nodes u = record {
+    bits = λ j h.
+        bit-and word lower j
+        ∙ by-test (bit word j)
+        (λ e. rw e (u .right j (levelAt levels (s * size .nodes + (64 * i + j))) h (d .right (f y) .each (64 * i + j) (nodes .below j h e))))
+        (λ e. rw e);
+  }
 
 -- ---- The words of a row hold nodes
 

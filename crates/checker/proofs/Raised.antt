@@ -17,7 +17,7 @@ use Rattle.cases.specs.declared.counts.Size.{Size}
 use Rattle.checker.specs.Sets.{RowRaised, Threshold}
 
 -- the numbers below a that pass a test, and a if it does, are those below a + 1 that do
-one-more : (f : ℕ → Bool) (b a : ℕ) → ((eqb b a && f a) || (ltb b a && f b)) ≡ (ltb b (a + 1) && f b)
+pub one-more : (f : ℕ → Bool) (b a : ℕ) → ((eqb b a && f a) || (ltb b a && f b)) ≡ (ltb b (a + 1) && f b)
 one-more f b a =
     by-test (eqb b a)
     (λ e. let q : b ≡ a = eqb-true b a e in rw (e, q, lt-ltb a (a + 1) (omega arith), le-ltb a a (omega arith)) (or-false (f a)))

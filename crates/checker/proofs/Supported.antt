@@ -1,14 +1,13 @@
 -- The value that a rule gives a pair, by the values that it reads and by the sets of valid and of possible pairs. Assumes nothing.
-use Prim.Native.Nat.{ℕ, zero, suc, _+_, _-_, _*_, _/_, _%_, _≤_, _<_, min, max}
-use native.Mathlib.Nat.{mul-zero, mod-lt, div-lt-iff-lt-mul}
+use Prim.Native.Nat.{ℕ, zero, suc, _+_, _-_, _*_, _≤_, _<_, min, max}
 use native.Mathlib.Omega.{arith}
 use mathlib.Core.Path.{_≡_, refl, sym, ap, ap₂, _∙_}
 use mathlib.Core.Bool.{Bool, true, false, cond, not, _&&_, _||_, Bool·beq}
 use mathlib.Core.List.{List}
-use lib.Arith.{digits-lt}
+use lib.Arith.{digits-lt, digits-div, digits-mod}
 use lib.ListN.{length, getD}
 use lib.Dec.{eqb, leb}
-use borrow.Author.Tests.{le-leb, lt-ltb, not-true, not-false}
+use borrow.Author.Tests.{le-leb, lt-leb, leb-true, lt-ltb, not-true, not-false}
 use Rattle.fixpoint.specs.Lists.{any, upTo, all, count}
 use Rattle.fixpoint.proofs.Lists.{bool-ext}
 use Rattle.bitset.specs.Words.{member, Row}
@@ -27,8 +26,8 @@ use Rattle.cases.specs.declared.numbers.Node.{Node}
 use Rattle.cases.specs.declared.numbers.Shape.{Shape}
 use Rattle.cases.specs.declared.numbers.Path.{Path}
 use Rattle.fillers.specs.CaseTables.{Tables}
-use Rattle.rules.specs.Kernel.{TablesFit, RuleFits, KernelOf, RuleHolds}
-use Rattle.rules.proofs.Holding.{holds-same, holds-all, holds-least}
+use Rattle.rules.specs.Kernel.{TablesFit, RuleFits, KernelOf}
+use Rattle.rules.proofs.Holding.{RuleHolds, holds-same, holds-all, holds-least}
 use Rattle.rules.proofs.InTables.{pair-count, kernel-there, tables-fit}
 use Rattle.semantics.specs.declared.value.Said.{Said}
 use Rattle.semantics.specs.declared.value.Said.the-variants.{Is, Above}
@@ -39,10 +38,10 @@ use Rattle.semantics.specs.Stability.{holds}
 use Rattle.semantics.specs.Values.{byteSays, saidNumber, saidValue, pairOf, shapeOf, nodeOf, entryAt, ruleValue, pairValue, supportedAt}
 use Rattle.semantics.proofs.Kernel.{holds-grows}
 use Rattle.semantics.proofs.Pairs.{reference-below, least-positive-at}
-use Rattle.semantics.proofs.Refusing.{Well, well-none, well-more, well-first, well-all}
 use Rattle.semantics.proofs.Thresholds.{value-at-least, value-at-most}
 use Rattle.checker.specs.Sets.{Proposed}
-use Rattle.checker.specs.Checking.{ValuesFit, RuleGives}
+use Rattle.checker.specs.Checking.{RuleIn, ValuesFit, RuleGives, PairGives, unsupported, RowSupported, ShapeSupported}
+use Rattle.checker.proofs.Passing.{WellFrom, well-start, well-next, first-found, first-none-found, RowsWell, rows-well-none, rows-well-more, rows-well-first, rows-well-all}
 use Rattle.semantics.specs.OldCode.{supportFault}
 
 -- a rule that is read in sets that agree at its references holds in both or in neither
@@ -158,124 +157,176 @@ module _ {r : ShapeRule} {a : ℕ} {size : Size} {sets values : List ℕ} where
       right = λ c k. o ∙ ap₂ (λ y z. cond y 2 (cond z 1 0)) (valid-if c k h) (possible-if c k j) ∙ two-tests (ruleValue c (entryAt c values) r a) (at-most-2 c k);
     }
 
-    module _ {x m : ℕ} {p : Path} {s : Shape} (q : m ≡ 1 + p .0 * size .nodes + a) where
-      pub gives-all : {v u : Bool} → r ≡ All p s → x ≡ cond v 2 (cond u 1 0)
-          → v ≡ all (upTo (64 * size .words)) (λ b. not (member sets (size .words) m b) || member valid (size .words) (s .0) b)
-          → u ≡ all (upTo (64 * size .words)) (λ b. not (member sets (size .words) m b) || member possible (size .words) (s .0) b) → RuleGives r a size sets values x
-      gives-all e o h j = by-sets o (holds-all f e q h) (holds-all (fits-swapped f) e q j)
+    -- where it holds of valid pairs, the possible ones need not be asked
+    by-valid : {v : Bool} → RuleHolds r a size sets valid possible v → v ≡ true → RuleGives r a size sets values 2
+    by-valid h y = record {
+      right = λ c k. let least = leb-true 2 (ruleValue c (entryAt c values) r a) (sym (valid-if c k h) ∙ y) in omega (arith, at-most-2 c k);
+    }
 
-      pub gives-least : {n i j : ℕ} → r ≡ AtLeast n p s → x ≡ cond (leb n i) 2 (cond (leb n j) 1 0)
-          → i ≡ count (upTo (64 * size .words)) (λ b. member sets (size .words) m b && member valid (size .words) (s .0) b)
-          → j ≡ count (upTo (64 * size .words)) (λ b. member sets (size .words) m b && member possible (size .words) (s .0) b) → RuleGives r a size sets values x
-      gives-least e o h j = by-sets o (holds-least f e q h) (holds-least (fits-swapped f) e q j)
+    by-possible : {x : ℕ} {v u : Bool} → RuleHolds r a size sets valid possible v → v ≡ false → RuleHolds r a size sets possible valid u → x ≡ cond false 2 (cond u 1 0)
+        → RuleGives r a size sets values x
+    by-possible {u = u} h y j o = by-sets (o ∙ ap (λ z. cond z 2 (cond u 1 0)) (sym y)) h j
+
+    module _ {m : ℕ} {p : Path} {s : Shape} (q : m ≡ 1 + p .0 * size .nodes + a) where
+      module _ (e : r ≡ All p s) {v : Bool} (h : v ≡ all (upTo (64 * size .words)) (λ b. not (member sets (size .words) m b) || member valid (size .words) (s .0) b)) where
+        pub gives-all-valid : v ≡ true → RuleGives r a size sets values 2
+        gives-all-valid y = by-valid (holds-all f e q h) y
+
+        pub gives-all : {x : ℕ} {u : Bool} → v ≡ false
+            → u ≡ all (upTo (64 * size .words)) (λ b. not (member sets (size .words) m b) || member possible (size .words) (s .0) b) → x ≡ cond false 2 (cond u 1 0)
+            → RuleGives r a size sets values x
+        gives-all y j o = by-possible (holds-all f e q h) y (holds-all (fits-swapped f) e q j) o
+
+      module _ {n : ℕ} (e : r ≡ AtLeast n p s) {i : ℕ} (h : i ≡ count (upTo (64 * size .words)) (λ b. member sets (size .words) m b && member valid (size .words) (s .0) b)) where
+        pub gives-least-valid : n ≤ i → RuleGives r a size sets values 2
+        gives-least-valid l = by-valid (holds-least f e q h) (le-leb n i l)
+
+        pub gives-least : {x j : ℕ} → i < n → j ≡ count (upTo (64 * size .words)) (λ b. member sets (size .words) m b && member possible (size .words) (s .0) b)
+            → x ≡ cond false 2 (cond (leb n j) 1 0) → RuleGives r a size sets values x
+        gives-least l k o = by-possible (holds-least f e q h) (lt-leb n i l) (holds-least (fits-swapped f) e q k) o
 
 -- ---- A pair and its rule
 
-pair-parts : (s n k : ℕ) → k < s * n → (k / n < s) × (k % n < n)
-pair-parts s zero k h = absurd (omega (arith, mul-zero s))
-pair-parts s (suc n) k h = (div-lt-iff-lt-mul {k = suc n} (omega arith) .1 h, mod-lt k (omega arith))
+module _ {counts : Counts} {rows sets : List ℕ} (t : Tables counts rows sets) {size : Size} (q : size ≡ sizeOf counts) where
+  pub live-row : Row sets (size .words) 0
+  live-row = rw q (record { fits = omega (arith, t .set-room, rows-apart (wordsOf counts) 0 (1 + counts .paths * counts .nodes) (omega arith)) })
 
-module _ {counts : Counts} {rows sets : List ℕ} (t : Tables counts rows sets) {k : ℕ} (h : k < counts .shapes * counts .nodes) where
-  pub shape-below : k / counts .nodes < counts .shapes
-  shape-below = pair-parts (counts .shapes) (counts .nodes) k h .0
+  module _ {s : ℕ} (l : s < counts .shapes) where
+    pub shape-small : s < 32
+    shape-small = omega (arith, t .few)
 
-  pub node-below : k % counts .nodes < counts .nodes
-  node-below = pair-parts (counts .shapes) (counts .nodes) k h .1
+    pub shape-row : {set : List ℕ} → 64 ≤ length set → Row set (size .words) s
+    shape-row m = rw q (record { fits = omega (arith, t .pairs-fit, rows-apart (wordsOf counts) s (counts .shapes) l) })
 
-  module _ {size : Size} (q : size ≡ sizeOf counts) where
-    pub some-node : 0 < size .nodes
-    some-node = rw q (omega (arith, node-below))
+    pub shape-valued : {values valid possible : List ℕ} → Proposed counts values valid possible → s * size .nodes + size .nodes ≤ length values
+    shape-valued p = rw q (omega (arith, p .there, rows-apart (counts .nodes) s (counts .shapes) l))
 
-    pub shape-small : k / size .nodes < 32
-    shape-small = rw q (omega (arith, shape-below, t .few))
+    module _ {rule : ShapeRule} (e : rule ≡ shapeIn rows s) where
+      pub rule-in : RuleIn counts rows sets s size rule
+      rule-in = record { tables = t; below = l; size-is = q; rule-is = e }
 
-    pub node-fits : k % size .nodes < 64 * size .words
-    node-fits = rw q (omega (arith, node-below, t .wide))
+      pub tables-there : {y x : List ℕ} → 64 ≤ length y → 64 ≤ length x → TablesFit rule size sets y x
+      tables-there m o = tables-fit t l e q m o
 
-    pub live-row : Row sets (size .words) 0
-    live-row = rw q (record { fits = omega (arith, t .set-room, rows-apart (wordsOf counts) 0 (1 + counts .paths * counts .nodes) (omega arith)) })
+module _ {counts : Counts} {rows sets : List ℕ} {s : ℕ} {size : Size} {rule : ShapeRule} (i : RuleIn counts rows sets s size rule) where
+  rule-is : rule ≡ shapeRule (caseIn counts rows) s
+  rule-is = i .rule-is ∙ sym (i .tables .rule-of s (i .below))
 
-    pub pair-row : {set : List ℕ} → 64 ≤ length set → Row set (size .words) (k / size .nodes)
-    pair-row l = rw q (record { fits = omega (arith, t .pairs-fit, rows-apart (wordsOf counts) (k / counts .nodes) (counts .shapes) shape-below) })
+  in-case : s < length (caseIn counts rows .shapes)
+  in-case = omega (arith, i .tables .shape-count, i .below)
 
-    module _ {rule : ShapeRule} (e : rule ≡ shapeIn rows (k / size .nodes)) where
-      pub rule-is : rule ≡ shapeRule (caseIn counts rows) (k / counts .nodes)
-      rule-is = (rw q at e) ∙ sym (t .rule-of (k / counts .nodes) shape-below)
+  pub reads-below : (o : ℕ) → any (references rule) (λ q. eqb q o) ≡ true → o < counts .shapes
+  reads-below o r = rw (i .tables .shape-count) at (reference-below (caseIn counts rows) (i .tables .sound) s o in-case (rw rule-is at r))
 
-      in-case : k / counts .nodes < length (caseIn counts rows .shapes)
-      in-case = omega (arith, t .shape-count, shape-below)
+  pub positive : shapeLeastPositive rule ≡ true
+  positive = rw rule-is (least-positive-at (caseIn counts rows) (i .tables .sound) s in-case)
 
-      pub reads-below : (s : ℕ) → any (references rule) (λ o. eqb o s) ≡ true → s < counts .shapes
-      reads-below s i = rw (t .shape-count) at (reference-below (caseIn counts rows) (t .sound) (k / counts .nodes) s in-case (rw rule-is at i))
+  pub kernel : KernelOf (caseIn counts rows) rule size sets
+  kernel = kernel-there (i .tables) (i .below) (i .rule-is) (i .size-is)
 
-      pub positive : shapeLeastPositive rule ≡ true
-      positive = rw rule-is (least-positive-at (caseIn counts rows) (t .sound) (k / counts .nodes) in-case)
+  pub values-fit : {values valid possible : List ℕ} → Proposed counts values valid possible → ValuesFit rule size values valid possible
+  values-fit p = rw (i .size-is) (record {
+    positive = positive;
+    there = λ o a r b. omega (arith, digits-lt (reads-below o r) b, p .there);
+    small = λ o a r b. p .valued (o * counts .nodes + a) (digits-lt (reads-below o r) b);
+    valid-at = λ o a r b. p .valid-set .members o a (reads-below o r) b;
+    possible-at = λ o a r b. p .possible-set .members o a (reads-below o r) b;
+  })
 
-      pub kernel : KernelOf (caseIn counts rows) rule size sets
-      kernel = kernel-there t shape-below (rw q at e) q
+  -- the parts of the pair at node a
+  module _ {a k : ℕ} (h : a < counts .nodes) (e : k ≡ s * counts .nodes + a) where
+    pair-shape : shapeOf (caseIn counts rows) k ≡ s
+    unfolding shapeOf
+    pair-shape = rw (i .tables .nodes, e) (digits-div s h)
 
-      pub rule-fits : {y x : List ℕ} → 64 ≤ length y → 64 ≤ length x → RuleFits rule (k % size .nodes) size sets y x
-      rule-fits l m = record { node = rw q node-below; tables = tables-fit t shape-below (rw q at e) q l m }
+    pub pair-node : nodeOf (caseIn counts rows) k ≡ a
+    unfolding nodeOf
+    pair-node = rw (i .tables .nodes, e) (digits-mod s h)
 
-      pub values-fit : {values valid possible : List ℕ} → Proposed counts values valid possible → ValuesFit rule size values valid possible
-      values-fit p = rw q (record {
-        positive = positive;
-        there = λ s a i b. omega (arith, digits-lt (reads-below s i) b, p .there);
-        small = λ s a i b. p .valued (s * counts .nodes + a) (digits-lt (reads-below s i) b);
-        valid-at = λ s a i b. p .valid-set .members s a (reads-below s i) b;
-        possible-at = λ s a i b. p .possible-set .members s a (reads-below s i) b;
-      })
+    pub pair-rule : shapeRule (caseIn counts rows) (shapeOf (caseIn counts rows) k) ≡ rule
+    pair-rule = ap (shapeRule (caseIn counts rows)) pair-shape ∙ sym rule-is
 
-      live-is : live (caseIn counts rows) (k % counts .nodes) ≡ member sets (size .words) 0 (k % size .nodes)
-      live-is =
-          rw q
-          (sym (t .lives .members (k % counts .nodes) (omega (arith, node-below, t .wide))
-          ∙ ap (λ z. z && live (caseIn counts rows) (k % counts .nodes)) (lt-ltb (k % counts .nodes) (caseIn counts rows .nodes) (omega (arith, t .nodes, node-below)))))
+    live-is : live (caseIn counts rows) a ≡ member sets (size .words) 0 a
+    live-is =
+        rw (i .size-is)
+        (sym (i .tables .lives .members a (omega (arith, i .tables .wide))
+        ∙ ap (λ z. z && live (caseIn counts rows) a) (lt-ltb a (caseIn counts rows .nodes) (omega (arith, i .tables .nodes)))))
 
-      -- its value, by its rule and the live nodes
-      pub value-is : (values : List ℕ) → pairValue (caseIn counts rows) values k
-          ≡ cond (member sets (size .words) 0 (k % size .nodes)) (ruleValue (caseIn counts rows) (entryAt (caseIn counts rows) values) rule (k % size .nodes)) 0
-      unfolding pairValue shapeOf nodeOf
-      value-is values =
-          let c = caseIn counts rows in
-          ap (λ n. cond (live c (k % n)) (ruleValue c (entryAt c values) (shapeRule c (k / n)) (k % n)) 0) (t .nodes)
-          ∙ rw (live-is, ← rule-is, q)
+    -- its value, by its rule and the live nodes
+    pub value-is : (values : List ℕ) → pairValue (caseIn counts rows) values k
+        ≡ cond (member sets (size .words) 0 a) (ruleValue (caseIn counts rows) (entryAt (caseIn counts rows) values) rule a) 0
+    unfolding pairValue
+    value-is values = rw (pair-rule, pair-node, live-is)
+
+pub values-there : {counts : Counts} {rows sets : List ℕ} → Tables counts rows sets → {size : Size} → size ≡ sizeOf counts → {s : ℕ} → s < counts .shapes → {rule : ShapeRule} → rule ≡ shapeIn rows s
+    → {values valid possible : List ℕ} → Proposed counts values valid possible → ValuesFit rule size values valid possible
+values-there t q l e p = values-fit (rule-in t q l e) p
 
 -- at a live node its rule's value, else 0
-pub pair-live : {rule : ShapeRule} {k x : ℕ} {size : Size} {rows sets values : List ℕ} {counts : Counts} {b : Bool} → RuleGives rule (k % size .nodes) size sets values x
-    → Tables counts rows sets → k < counts .shapes * counts .nodes → size ≡ sizeOf counts → rule ≡ shapeIn rows (k / size .nodes)
-    → b ≡ member sets (size .words) 0 (k % size .nodes) → not b ≡ false → x ≡ pairValue (caseIn counts rows) values k
-pair-live {rows = rows} {values = values} {counts = counts} {b = b} g t h q e m y =
-    g .right (caseIn counts rows) (kernel t h q e) ∙ sym (value-is t h q e values ∙ rw (← m, not-false b y))
+module _ {rule : ShapeRule} {a : ℕ} {size : Size} {sets : List ℕ} {b : Bool} (m : b ≡ member sets (size .words) 0 a) where
+  pub pair-live : {values : List ℕ} {x : ℕ} → not b ≡ false → RuleGives rule a size sets values x → PairGives rule a size sets values x
+  pair-live y g = record { right = λ c k. g .right c k ∙ rw (← m, not-false b y) }
 
-pub pair-dead : {k : ℕ} {size : Size} {counts : Counts} {rows sets : List ℕ} {b : Bool} (values : List ℕ) → Tables counts rows sets → k < counts .shapes * counts .nodes
-    → size ≡ sizeOf counts → b ≡ member sets (size .words) 0 (k % size .nodes) → not b ≡ true → 0 ≡ pairValue (caseIn counts rows) values k
-pair-dead {b = b} values t h q m y = sym (value-is t h q refl values ∙ rw (← m, not-true b y))
+  pub pair-dead : {values : List ℕ} → not b ≡ true → PairGives rule a size sets values 0
+  pair-dead y = record { right = λ c k. rw (← m, not-true b y) }
 
--- ---- The first pair that is not supported
+-- ---- The first pair of shape s that is not supported: those at the nodes below a are
 
--- 14 of a pair
-abbrev pub unsupported : Case → List ℕ → ℕ → Refusal
-unsupported c values k = refuseUnless (supportedAt c values k) 14 k
+pub record SupportedTo (rule : ShapeRule) (s : ℕ) (size : Size) (sets values : List ℕ) (a : ℕ) : Type 0 where
+  pub most : a ≤ size .nodes
+  pub well : (counts : Counts) (rows : List ℕ) → RuleIn counts rows sets s size rule → WellFrom (unsupported counts rows values) (s * counts .nodes) (s * counts .nodes + a)
 
--- the pairs below k are supported
-pub record SupportedTo (counts : Counts) (rows values : List ℕ) (k : ℕ) : Type 0 where
-  pub well : Well (unsupported (caseIn counts rows) values) k
+module _ {rule : ShapeRule} {s : ℕ} {size : Size} {sets values : List ℕ} where
+  pub supported-none : SupportedTo rule s size sets values 0
+  supported-none = record { most = omega arith; well = λ counts rows i. well-start (omega arith) }
 
-pub supported-none : {counts : Counts} {rows values : List ℕ} → SupportedTo counts rows values 0
-supported-none = record { well = well-none }
+  module _ {a : ℕ} (v : SupportedTo rule s size sets values a) where
+    module _ {x : ℕ} {r : Refusal} (h : a < size .nodes) (e : r ≡ refuseUnless (eqb (getD values (s * size .nodes + a) 0) x) 14 (s * size .nodes + a))
+        (g : PairGives rule a size sets values x) where
+      module _ {counts : Counts} {rows : List ℕ} (i : RuleIn counts rows sets s size rule) where
+        node-below : a < counts .nodes
+        node-below = rw (i .size-is) at h
 
-module _ {counts : Counts} {rows values : List ℕ} {k : ℕ} (v : SupportedTo counts rows values k) where
-  module _ {x : ℕ} {r : Refusal} (e : r ≡ refuseUnless (eqb (getD values k 0) x) 14 k) (f : x ≡ pairValue (caseIn counts rows) values k) where
-    fault-is : r ≡ unsupported (caseIn counts rows) values k
-    unfolding supportedAt
-    fault-is = e ∙ rw f
+        fault-is : r ≡ unsupported counts rows values (s * counts .nodes + a)
+        unfolding supportedAt
+        fault-is = (rw (i .size-is) at e) ∙ rw (g .right (caseIn counts rows) (kernel i), ← value-is i node-below refl values)
 
-    pub supported-more : r .number ≡ 0 → SupportedTo counts rows values (k + 1)
-    supported-more z = record { well = well-more fault-is z (v .well) }
+      pub supported-more : r .number ≡ 0 → SupportedTo rule s size sets values (a + 1)
+      supported-more z = record {
+        most = omega arith;
+        well = λ counts rows i. let m : s * counts .nodes + a + 1 ≡ s * counts .nodes + (a + 1) = omega arith in rw m at (well-next (fault-is i) z (v .well counts rows i));
+      }
 
-    pub supported-first : {sets : List ℕ} → Tables counts rows sets → k < counts .shapes * counts .nodes → (r .number ≡ 0 → ⊥) → r ≡ supportFault (caseIn counts rows) values
-    supported-first t h n = well-first fault-is (omega (arith, pair-count t)) n (v .well)
+      pub supported-first : (r .number ≡ 0 → ⊥) → RowSupported rule s size sets values r
+      supported-first n = record {
+        right = λ counts rows i. first-found (fault-is i) n (omega arith) (omega (arith, node-below i)) (digits-lt (i .below) (node-below i)) (v .well counts rows i);
+      }
 
-  pub supported-all : {sets : List ℕ} {r : Refusal} → Tables counts rows sets → counts .shapes * counts .nodes ≤ k → r ≡ noRefusal → r ≡ supportFault (caseIn counts rows) values
-  supported-all t h e = e ∙ well-all (omega (arith, pair-count t)) (v .well)
+    pub supported-all : {r : Refusal} → size .nodes ≤ a → r ≡ noRefusal → RowSupported rule s size sets values r
+    supported-all h e = record {
+      right = λ counts rows i. let m : counts .nodes ≤ a = rw (i .size-is) at h in first-none-found e (λ k l o. omega arith) (v .well counts rows i);
+    }
+
+pub shape-supported : {counts : Counts} {rows sets values : List ℕ} {s : ℕ} {size : Size} {rule : ShapeRule} {r : Refusal} → Tables counts rows sets → size ≡ sizeOf counts
+    → s < counts .shapes → rule ≡ shapeIn rows s → RowSupported rule s size sets values r → ShapeSupported counts rows s values r
+shape-supported {counts} {rows} t q l e v = record { right = v .right counts rows (rule-in t q l e) }
+
+-- ---- All shapes: the pairs of those below s are supported
+
+pub record SupportedRows (counts : Counts) (rows values : List ℕ) (s : ℕ) : Type 0 where
+  pub well : RowsWell (unsupported counts rows values) (counts .nodes) (counts .shapes) (counts .shapes * counts .nodes) s
+
+module _ {counts : Counts} {rows values : List ℕ} where
+  pub rows-none : SupportedRows counts rows values 0
+  rows-none = record { well = rows-well-none }
+
+  module _ {s : ℕ} (v : SupportedRows counts rows values s) where
+    module _ (h : s < counts .shapes) {r : Refusal} (g : ShapeSupported counts rows s values r) where
+      pub rows-more : r .number ≡ 0 → SupportedRows counts rows values (s + 1)
+      rows-more z = record { well = rows-well-more h (g .right) z (v .well) }
+
+      pub rows-first : {sets : List ℕ} → Tables counts rows sets → (r .number ≡ 0 → ⊥) → r ≡ supportFault (caseIn counts rows) values
+      rows-first t n = rows-well-first (g .right) n (v .well) ∙ rw (← pair-count t)
+
+    pub rows-all : {sets : List ℕ} {r : Refusal} → Tables counts rows sets → counts .shapes ≤ s → r ≡ noRefusal → r ≡ supportFault (caseIn counts rows) values
+    rows-all t h e = e ∙ rows-well-all h (omega arith) (v .well) ∙ rw (← pair-count t)

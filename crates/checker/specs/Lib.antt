@@ -1,3 +1,4 @@
 -- What checking answers, and what its parts ask and leave.
 pub mod Sets
+pub mod Digits
 pub mod Checking

@@ -1,5 +1,5 @@
 // 14: the value that a rule gives a pair, and the first pair with another. The values of references are read one by one; over fillers an
-// all and an at least ask the sets of valid and of possible pairs.
+// all and an at least ask the set of valid pairs and, where it doesn't do, that of possible ones.
 use bitset::rows::count_common;
 use bitset::rows::is_member;
 use bitset::rows::is_same;
@@ -13,7 +13,7 @@ use cases::counts::size_of;
 use cases::numbers::Node;
 use cases::numbers::Shape;
 use cases::rows::shape_in;
-use rules::kernel::filler_row;
+use rules::places::filler_row;
 use semantics::refusals::refuse_unless;
 use semantics::value::Said;
 use semantics::value::Value;
@@ -21,13 +21,13 @@ use values::writing::value_of;
 ghost use mathlib.Core.Path.{_≡_};
 ghost use Prim.Native.Nat.{_+_, _*_, _<_, _≤_};
 ghost use lib.ListN.{length, getD};
+ghost use Rattle.bitset.specs.Words.{Row};
 ghost use Rattle.cases.specs.Rows.{caseIn};
 ghost use Rattle.fillers.specs.CaseTables.{Tables};
-ghost use Rattle.rules.specs.Kernel.{RuleFits};
+ghost use Rattle.rules.specs.Kernel.{TablesFit, RuleFits};
 ghost use Rattle.semantics.specs.OldCode.{supportFault};
-ghost use Rattle.semantics.specs.Values.{pairValue};
 ghost use Rattle.checker.specs.Sets.{Proposed};
-ghost use Rattle.checker.specs.Checking.{ValuesFit, RuleGives};
+ghost use Rattle.checker.specs.Checking.{ValuesFit, RuleGives, PairGives, RowSupported, ShapeSupported};
 
 // The value of shape s at node a, a byte of which is known that it says one.
 fn value_at(values: &[u8], size: Size, s: Shape, a: Node) -> Value
@@ -69,46 +69,92 @@ fn rule_value(
         ),
         ShapeRule::All(p, s) => {
             let row = filler_row(p, a, size);
-            value_of(
-                is_subset(sets, row, valid, s.0, w),
-                is_subset(sets, row, possible, s.0, w),
-            )
+            if is_subset(sets, row, valid, s.0, w) {
+                return Value::VALID;
+            }
+            value_of(false, is_subset(sets, row, possible, s.0, w))
         }
         ShapeRule::AtLeast(least, p, s) => {
             let row = filler_row(p, a, size);
-            value_of(
-                least <= count_common(sets, row, valid, s.0, w),
-                least <= count_common(sets, row, possible, s.0, w),
-            )
+            if least <= count_common(sets, row, valid, s.0, w) {
+                return Value::VALID;
+            }
+            value_of(false, least <= count_common(sets, row, possible, s.0, w))
         }
     }
 }
 
-// The value that its rule gives pair k.
+// The value that the rule gives a pair at node a.
 fn pair_value(
+    rule: ShapeRule,
+    a: Node,
+    size: Size,
+    sets: &[u64],
+    values: &[u8],
+    valid: &[u64],
+    possible: &[u64],
+) -> Value
+    requires { ⌜ RuleFits rule (a .0) size (now sets) (now valid) (now possible) ⌝ }
+    requires { ⌜ ValuesFit rule size (now values) (now valid) (now possible) ⌝ }
+    requires { ⌜ Row (now sets) (size .words) 0 ⌝ }
+    ensures { λ r. ⌜ PairGives rule (a .0) size (now (sets .entry)) (now (values .entry)) (r .0) ⌝ }
+{
+    if !is_member(sets, size.words, 0, a.0) {
+        return Value::VIOLATED;
+    }
+    rule_value(rule, a, size, sets, values, valid, possible)
+}
+
+// The first pair of shape s that is not supported. Those at the nodes below a are.
+fn unsupported_row(
+    rule: ShapeRule,
+    s: Shape,
+    size: Size,
+    sets: &[u64],
+    values: &[u8],
+    valid: &[u64],
+    possible: &[u64],
+) -> Refusal
+    requires { ⌜ TablesFit rule size (now sets) (now valid) (now possible) ⌝ }
+    requires { ⌜ ValuesFit rule size (now values) (now valid) (now possible) ⌝ }
+    requires { ⌜ Row (now sets) (size .words) 0 ⌝ }
+    requires { ⌜ s .0 * size .nodes + size .nodes ≤ length (now values) ⌝ }
+    ensures { λ r. ⌜ RowSupported rule (s .0) size (now (sets .entry)) (now (values .entry)) r ⌝ }
+{
+    let mut a = 0;
+    while a < size.nodes {
+        let k = s.0 * size.nodes + a;
+        let value = pair_value(rule, Node(a), size, sets, values, valid, possible);
+        let fault = refuse_unless(values[k] == value.0, 14, k);
+        if fault.number != 0 {
+            return fault;
+        }
+        a += 1;
+    }
+    no_refusal()
+}
+
+// The first pair of shape s of the tables that is not supported.
+fn unsupported_shape(
     counts: Counts,
     rows: &[u16],
     sets: &[u64],
     values: &[u8],
     valid: &[u64],
     possible: &[u64],
-    k: usize,
-) -> Value
+    s: Shape,
+) -> Refusal
     requires { ⌜ Tables counts (now rows) (now sets) ⌝ }
     requires { ⌜ Proposed counts (now values) (now valid) (now possible) ⌝ }
-    requires { ⌜ k < counts .shapes * counts .nodes ⌝ }
-    ensures { λ r. ⌜ r .0 ≡ pairValue (caseIn counts (now (rows .entry))) (now (values .entry)) k ⌝ }
+    requires { ⌜ s .0 < counts .shapes ⌝ }
+    ensures { λ r. ⌜ ShapeSupported counts (now (rows .entry)) (s .0) (now (values .entry)) r ⌝ }
 {
     let size = size_of(counts);
-    let a = Node(k % size.nodes);
-    if !is_member(sets, size.words, 0, a.0) {
-        return Value::VIOLATED;
-    }
-    let rule = shape_in(rows, Shape(k / size.nodes));
-    rule_value(rule, a, size, sets, values, valid, possible)
+    let rule = shape_in(rows, s);
+    unsupported_row(rule, s, size, sets, values, valid, possible)
 }
 
-// The first pair that is not supported. Those below k are.
+// The first pair that is not supported. Those of the shapes below s are.
 pub fn support_fault(
     counts: Counts,
     rows: &[u16],
@@ -121,15 +167,13 @@ pub fn support_fault(
     requires { ⌜ Proposed counts (now values) (now valid) (now possible) ⌝ }
     ensures { λ r. ⌜ r ≡ supportFault (caseIn counts (now (rows .entry))) (now (values .entry)) ⌝ }
 {
-    let pairs = counts.shapes * counts.nodes;
-    let mut k = 0;
-    while k < pairs {
-        let value = pair_value(counts, rows, sets, values, valid, possible, k);
-        let fault = refuse_unless(values[k] == value.0, 14, k);
+    let mut s = 0;
+    while s < counts.shapes {
+        let fault = unsupported_shape(counts, rows, sets, values, valid, possible, Shape(s));
         if fault.number != 0 {
             return fault;
         }
-        k += 1;
+        s += 1;
     }
     no_refusal()
 }

@@ -1,7 +1,8 @@
--- The laws of sets of paths, of what is gathered from the edges, of the paths worked out one from the other and of the whole table; and the
--- law that users of a case's tables start from.
+-- The laws of sets of paths, of what is gathered from the edges, of the paths worked out one from the other, of the whole table and of the
+-- converse; and the law that users of a case's tables start from.
 pub mod PathSets
 pub mod Gathering
 pub mod Filling
 pub mod Making
+pub mod Turning
 pub mod Prepared

@@ -1,3 +1,4 @@
--- The laws of sets of shapes as words, and of the shapes in the rows of a case.
+-- The laws of sets of shapes as words, of the shapes in the rows of a case, and of the table of links.
 pub mod ShapeSets
 pub mod Shapes
+pub mod Linking

@@ -1,2 +1,3 @@
--- Who refers to whom, and sets of shapes as words.
+-- Who refers to whom, sets of shapes as words, and the table of links.
 pub mod Referring
+pub mod Linking

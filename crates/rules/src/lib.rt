@@ -1,4 +1,2 @@
-// The kernel: whether, and at which nodes, a shape's rule holds, when references are read in one set of pairs and a not holds where its
-// pair isn't in another.
-pub mod kernel;
+// What a rule reads and gives: where its rows stand, its tests at a node, sets of pairs in tables, and shapes at rest.
 pub mod places;

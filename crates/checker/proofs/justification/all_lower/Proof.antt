@@ -8,10 +8,10 @@ use Rattle.checker.proofs.justification.all_lower.Statement.{statement}
 use Rattle.checker.proofs.justification.all_lower.Tie as tie
 
 abbrev Inv-loop : tie.InvT-loop
-Inv-loop sets row levels bound size s i₀ i = PassedTo (isLow levels bound size (s .0)) sets row (size .words) i
+Inv-loop sets row levels bound size s digits used i₀ i = PassedTo (isLow levels bound size (s .0)) sets row (size .words) i
 
 abbrev μ-loop : tie.MeasureT-loop
-μ-loop sets row levels bound size s i₀ i = size .words - i
+μ-loop sets row levels bound size s digits used i₀ i = size .words - i
 
 loop-holds : tie.Need-loop-holds Inv-loop μ-loop
 loop-holds c = passed-none
@@ -23,13 +23,15 @@ returns : tie.Need-returns Inv-loop μ-loop
 returns c =
     let d = c .before .before in
     let o = d .before .before in
-    passed-not (o .before .before .loop .inv) (o .if1 .taken) (c .before .lower-word .ensures) (search) (d .shared-slice-known3 .given) (c .if2 .taken)
+    passed-not (o .before .before .loop .inv) (o .if1 .taken) (c .before .lower-word .ensures) (search) (d .shared-slice-known4 .given) (c .if2 .taken)
 
 loop-less : tie.Need-loop-less Inv-loop μ-loop
 loop-less c = omega arith
 
 loop-again : tie.Need-loop-again Inv-loop μ-loop
-loop-again c = search passed-more
+loop-again c =
+    let o = c .before .before .before .before in
+    passed-more (o .before .before .loop .inv) (o .if1 .taken) (c .before .lower-word .ensures) (c .if2 .left)
 
 returns-2 : tie.Need-returns-2 Inv-loop μ-loop
 returns-2 c = passed-done (c .if1 .left) (c .before .before .loop .inv)

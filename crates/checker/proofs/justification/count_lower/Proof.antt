@@ -8,10 +8,10 @@ use Rattle.checker.proofs.justification.count_lower.Statement.{statemen
 use Rattle.checker.proofs.justification.count_lower.Tie as tie
 
 abbrev Inv-loop : tie.InvT-loop
-Inv-loop sets row set levels bound size s n₀ i₀ n i = PassingTo (isLow levels bound size (s .0)) sets row set (s .0) (size .words) i n
+Inv-loop sets row set levels bound size s digits used n₀ i₀ n i = PassingTo (isLow levels bound size (s .0)) sets row set (s .0) (size .words) i n
 
 abbrev μ-loop : tie.MeasureT-loop
-μ-loop sets row set levels bound size s n₀ i₀ n i = size .words - i
+μ-loop sets row set levels bound size s digits used n₀ i₀ n i = size .words - i
 
 loop-holds : tie.Need-loop-holds Inv-loop μ-loop
 loop-holds c = passing-none

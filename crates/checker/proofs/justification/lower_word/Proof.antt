@@ -1,51 +1,14 @@
--- `checker::justification::lower_word` meets its contract. The invariant: the nodes outside `rest` are sorted out. Assumes nothing.
-use native.Mathlib.Omega.{arith}
+-- `checker::justification::lower_word` meets its contract. Assumes nothing.
 use borrow.Author.Needs.{needs}
-use Rattle.checker.specs.Sets.{isLow}
-use Rattle.checker.proofs.Lowered.{sorted-base, sorted-fits, SortedBut, sorted-none, sorted-node, sorted-more, sorted-done}
+use Rattle.checker.proofs.Lowered.{digits-long, digits-few, lower-by-digits}
 use Rattle.checker.proofs.justification.lower_word.Statement.{statement}
 use Rattle.checker.proofs.justification.lower_word.Tie as tie
 
-abbrev Inv-loop : tie.InvT-loop
-Inv-loop word i levels bound size s lower₀ rest₀ lower rest = SortedBut rest (isLow levels bound size (s .0)) word i lower
+lower-in-requires : tie.Need-lower-in-requires
+lower-in-requires c κs = search (digits-long, digits-few)
 
-abbrev μ-loop : tie.MeasureT-loop
-μ-loop word i levels bound size s lower₀ rest₀ lower rest = rest
-
-loop-holds : tie.Need-loop-holds Inv-loop μ-loop
-loop-holds c = sorted-none
-
-mul-t11 : tie.Need-mul-t11 Inv-loop μ-loop
-mul-t11 c = search sorted-base
-
-add-t12 : tie.Need-add-t12 Inv-loop μ-loop
-add-t12 c = search sorted-fits
-
-is-lower-requires : tie.Need-is-lower-requires Inv-loop μ-loop
-is-lower-requires c κs = search sorted-node
-
-loop-less : tie.Need-loop-less Inv-loop μ-loop
-loop-less c = c .without-bit .ensures .less (c .before .before .before .lowest-bit .ensures .there)
-
-loop-again : tie.Need-loop-again Inv-loop μ-loop
-loop-again c = search sorted-more
-
-returns : tie.Need-returns Inv-loop μ-loop
-returns c = search (sorted-done, arith)
+returns : tie.Need-returns
+returns c = search lower-by-digits
 
 pub lower-word-spec : {M : Type 1} → statement M
-lower-word-spec =
-    tie.close
-    (tie.spec
-    Inv-loop
-    μ-loop
-    loop-holds
-    (λ c κs. search needs)
-    mul-t11
-    add-t12
-    is-lower-requires
-    (λ c κs. search needs)
-    (λ c κs. search needs)
-    loop-less
-    loop-again
-    returns)
+lower-word-spec = tie.close (tie.spec (λ c κs. search needs) lower-in-requires returns (λ c κs. search needs) (λ c. search needs))

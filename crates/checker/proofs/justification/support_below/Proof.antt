@@ -6,7 +6,7 @@ use Rattle.rules.proofs.Holding.{or-first, or-second, all-small, all-path, leas
 use Rattle.semantics.proofs.Kernel.{first-of, second-of}
 use Rattle.semantics.specs.Levels.{supportBelow}
 use Rattle.cases.specs.Case.{references, pathsOfShape}
-use Rattle.checker.proofs.Justified.{both-hold, first-fails, first-holds, second-decides, levels-there, fillers-below, below-free, below-and, below-or, below-all, below-least}
+use Rattle.checker.proofs.Justified.{both-hold, first-fails, first-holds, second-decides, levels-there, fillers-below, digits-there, below-free, below-and, below-or, below-all, below-least}
 use Rattle.checker.proofs.justification.support_below.Statement.{statement}
 use Rattle.checker.proofs.justification.support_below.Tie as tie
 
@@ -31,14 +31,14 @@ filler-row-requires c κs = search (all-small, arith)
 
 all-lower-requires : tie.Need-all-lower-requires
 unfolding references pathsOfShape
-all-lower-requires c κs = search (all-path, fillers-below, levels-there, first-of)
+all-lower-requires c κs = (search all-path, (search (fillers-below, first-of), (search (levels-there, first-of), search (digits-there, first-of))))
 
 filler-row-requires-2 : tie.Need-filler-row-requires-2
 filler-row-requires-2 c κs = search (least-small, arith)
 
 count-lower-requires : tie.Need-count-lower-requires
 unfolding references pathsOfShape
-count-lower-requires c κs = (search least-path, (search least-shape, (search (fillers-below, first-of), (search (levels-there, first-of), search))))
+count-lower-requires c κs = (search least-path, (search least-shape, (search (fillers-below, first-of), (search (levels-there, first-of), (search (digits-there, first-of), search)))))
 
 returns : tie.Need-returns
 unfolding supportBelow
