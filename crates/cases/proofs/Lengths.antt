@@ -22,8 +22,8 @@ use Rattle.cases.specs.declared.counts.Counts.{Counts}
 use Rattle.cases.specs.declared.format.Format.{Format}
 use Rattle.cases.specs.declared.format.Operands.{Operands}
 use Rattle.cases.specs.declared.format.Operands.the-variants.{Complete, Cut}
-use Rattle.cases.specs.declared.parts.Head.{Head}
-use Rattle.cases.specs.declared.parts.Head.the-variants.{Refused, Name, Alone, One, Two, AtMost}
+use Rattle.cases.specs.declared.heads.Head.{Head}
+use Rattle.cases.specs.declared.heads.Head.the-variants.{Refused, Name, Alone, One, Two, AtMost}
 use Rattle.cases.specs.Counts.{shapeLimit}
 use Rattle.cases.specs.Faults.{inOrder, withinLimit, nodesKnown, pathsEarlier, leastPositive, shapeNodesKnown, shapePathsEarlier, shapeLeastPositive}
 use Rattle.cases.specs.Format.{formatOf, groupOf, widthBy, takenOf, operandsBy, operandsOf, missing, shapeRuleOf, commandAt}

@@ -16,8 +16,8 @@ use Rattle.cases.specs.declared.command.ShapeRule.{ShapeRule}
 use Rattle.cases.specs.declared.command.ShapeRule.the-variants.{Top, Node, And, Or, Not, Same, All, AtLeast}
 use Rattle.cases.specs.declared.format.Format.{Format}
 use Rattle.cases.specs.declared.format.Operands.the-variants.{Complete, Cut}
-use Rattle.cases.specs.declared.parts.Head.{Head}
-use Rattle.cases.specs.declared.parts.Head.the-variants.{Refused, Name, Alone, One, Two, AtMost}
+use Rattle.cases.specs.declared.heads.Head.{Head}
+use Rattle.cases.specs.declared.heads.Head.the-variants.{Refused, Name, Alone, One, Two, AtMost}
 use Rattle.cases.specs.Case.{pathsOfShape, references}
 use Rattle.cases.specs.Encoding.{shapeByte}
 use Rattle.cases.specs.Faults.{shapeNodesKnown, shapePathsEarlier, shapeLeastPositive}

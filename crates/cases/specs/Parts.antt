@@ -10,8 +10,8 @@ use Rattle.cases.specs.declared.command.ShapeRule.the-variants.{Top, Nod
 use Rattle.cases.specs.declared.format.Format.{Format}
 use Rattle.cases.specs.declared.format.Operands.{Operands}
 use Rattle.cases.specs.declared.format.Operands.the-variants.{Complete, Cut}
-use Rattle.cases.specs.declared.parts.Head.{Head}
-use Rattle.cases.specs.declared.parts.Head.the-variants.{Refused, Name, Alone, One, Two, AtMost}
+use Rattle.cases.specs.declared.heads.Head.{Head}
+use Rattle.cases.specs.declared.heads.Head.the-variants.{Refused, Name, Alone, One, Two, AtMost}
 use Rattle.cases.specs.Case.{references}
 use Rattle.cases.specs.Faults.{shapeNodesKnown, shapePathsEarlier, shapeLeastPositive}
 use Rattle.cases.specs.Format.{widthBy, operandsBy, missing, shapeRuleOf}

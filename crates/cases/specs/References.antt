@@ -3,8 +3,8 @@ use Prim.Native.Nat.{ℕ}
 use mathlib.Core.List.{List, [], _∷_}
 use Rattle.cases.specs.declared.paths.Paths.{Paths}
 use Rattle.cases.specs.declared.paths.Paths.the-variants.{No as NoPath, One as OnePath, Two as TwoPaths}
-use Rattle.cases.specs.declared.references.References.{References}
-use Rattle.cases.specs.declared.references.References.the-variants.{No, One, Two}
+use Rattle.cases.specs.declared.shape_operands.References.{References}
+use Rattle.cases.specs.declared.shape_operands.References.the-variants.{No, One, Two}
 
 -- the shapes that each case has, in the order of the operands; how many they are is the list's length
 abbrev pub listed : References → List ℕ

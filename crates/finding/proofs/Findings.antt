@@ -36,8 +36,8 @@ use Rattle.parts.specs.declared.readers.Opened.the-variants.{Refused as PartRef
 use Rattle.parts.specs.Reads.{OpenedIs, OpenedAs, budget, PartRoom}
 use Rattle.parts.specs.Tables.{rulesIn, NoteRoom, Noted}
 use Rattle.parts.proofs.Stores.{length-rulesIn}
-use Rattle.finding.specs.declared.finding.Finding.{Finding}
-use Rattle.finding.specs.declared.finding.Reached.{Reached}
+use Rattle.finding.specs.declared.commands.Finding.{Finding}
+use Rattle.finding.specs.declared.commands.Reached.{Reached}
 use Rattle.finding.specs.Finding.{refusedFinding, partFinding, isBeyond, withRoom, isUnlaid, withEdge, PlainRoom, FindRoom, Stands, entryCommand, entryInside, entryNames, isShape, isShapeEntry}
 use Rattle.finding.specs.Finding.{says, StepIs, FindingIs, PlainAs, NestedAs, RoomyAs, FoundAs}
 

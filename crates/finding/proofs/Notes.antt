@@ -9,8 +9,8 @@ use Rattle.cases.specs.declared.command.Command.the-variants.{Shape as ShapeCom
 use Rattle.cases.specs.declared.command.ShapeRule.{ShapeRule}
 use Rattle.cases.specs.declared.command.Target.{Target}
 use Rattle.cases.specs.declared.numbers.Shape.{Shape}
-use Rattle.cases.specs.declared.references.References.{References}
-use Rattle.cases.specs.declared.references.References.the-variants.{No, One, Two}
+use Rattle.cases.specs.declared.shape_operands.References.{References}
+use Rattle.cases.specs.declared.shape_operands.References.the-variants.{No, One, Two}
 use Rattle.cases.specs.Case.{references}
 use Rattle.cases.specs.Reading.{shapesNamed}
 use Rattle.cases.specs.References.{listed}

@@ -24,8 +24,8 @@ use Rattle.cases.specs.Reading.{stepAt, Progress, countsSoFar, shapesNamed, nam
 use Rattle.parts.specs.declared.readers.Opened.{Opened}
 use Rattle.parts.specs.declared.readers.Opened.the-variants.{Refused as PartRefused, Name, Rule}
 use Rattle.parts.specs.Tables.{rulesIn, namedIn}
-use Rattle.finding.specs.declared.finding.Finding.{Finding}
-use Rattle.finding.specs.declared.finding.Reached.{Reached}
+use Rattle.finding.specs.declared.commands.Finding.{Finding}
+use Rattle.finding.specs.declared.commands.Reached.{Reached}
 
 -- ---- The small functions
 

@@ -1,7 +1,7 @@
 // Noting the shapes that a command names, with the offset of the command.
 use cases::command::Command;
-use cases::references::References;
-use cases::references::references_of;
+use cases::shape_operands::References;
+use cases::shape_operands::references_of;
 use parts::tables::note_one;
 ghost use Rattle.cases.specs.References.{listed};
 ghost use Rattle.cases.specs.Reading.{shapesNamed};

@@ -6,7 +6,7 @@ use judge::solving::solve;
 use judge::supporting::check_supported;
 use judge::totalling::node_totals;
 use libc::STDOUT_FILENO;
-use semantics::unfinished::Unfinished;
+use semantics::ongoing::Unfinished;
 use unfinished::advancing::advance;
 use unfinished::asking::ask;
 use unfinished::beginning::begin;

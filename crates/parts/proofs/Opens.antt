@@ -13,8 +13,8 @@ use Rattle.cases.specs.declared.command.Row.{Row}
 use Rattle.cases.specs.declared.format.Format.{Format}
 use Rattle.cases.specs.declared.format.Operands.{Operands}
 use Rattle.cases.specs.declared.format.Operands.the-variants.{Complete, Cut}
-use Rattle.cases.specs.declared.parts.Head.{Head}
-use Rattle.cases.specs.declared.parts.Head.the-variants.{Refused, Name}
+use Rattle.cases.specs.declared.heads.Head.{Head}
+use Rattle.cases.specs.declared.heads.Head.the-variants.{Refused, Name}
 use Rattle.cases.specs.Format.{takenBy, operandsBy, missing, shapeRuleOf}
 use Rattle.cases.specs.Parts.{partFormatOf, ruleHead, atMostHead, wholeHead, headBy, headAt, filled}
 use Rattle.parts.specs.Reads.{withReferences}

@@ -10,7 +10,7 @@ use cases::format::missing_number;
 use cases::format::part_format_of;
 use cases::format::read_operands;
 use cases::format::taken_by;
-use cases::parts::Head;
+use cases::heads::Head;
 ghost use mathlib.Core.Path.{_≡_};
 ghost use Rattle.cases.specs.Parts.{opening, ruleHead, atMostHead, headAt};
 

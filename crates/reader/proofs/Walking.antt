@@ -38,8 +38,8 @@ use Rattle.parts.specs.Expanding.{withShapes, ExpandedAs}
 use Rattle.parts.specs.Tables.{rulesIn, namedIn}
 use Rattle.parts.proofs.Renumbering.{expansion-moved}
 use Rattle.parts.proofs.Stores.{length-rulesIn}
-use Rattle.finding.specs.declared.finding.Finding.{Finding}
-use Rattle.finding.specs.declared.finding.Reached.{Reached}
+use Rattle.finding.specs.declared.commands.Finding.{Finding}
+use Rattle.finding.specs.declared.commands.Reached.{Reached}
 use Rattle.finding.specs.Finding.{nothingReached, RowRoom, FindRoom, Stands, entryCommand, entryInside, entryNames, isShape, isShapeEntry, Adds, StepIs, FoundAs}
 use Rattle.finding.proofs.Findings.{few-references, rules-count}
 use Rattle.reader.specs.Parsing.{refusedAs, endFault, EndRoom, EndedAs, ParsedAs}

@@ -11,7 +11,7 @@ use Rattle.cases.specs.Reading.{Note, Outcome, outcome, unknownShape}
 use Rattle.cases.specs.Rows.{caseIn, CaseIn}
 use Rattle.parts.specs.Expanding.{ExpandRoom, ExpandedAs}
 use Rattle.parts.specs.Tables.{namedIn}
-use Rattle.finding.specs.declared.finding.Reached.{Reached}
+use Rattle.finding.specs.declared.commands.Reached.{Reached}
 
 abbrev pub refusedAs : ℕ → ℕ → Parsed
 refusedAs number place =

@@ -3,7 +3,7 @@ use Prim.Native.Nat.{ℕ, _<_, _≤_}
 use mathlib.Core.Path.{_≡_}
 use borrow.Author.Tests.{ne-eqb, eq-eqb, lt-ltb, le-ltb}
 use Rattle.semantics.specs.Unfinished.{heldCase, afterRound, advanced, replyNumber, certainOf, asked}
-use Rattle.semantics.specs.declared.unfinished.Unfinished.{Unfinished}
+use Rattle.semantics.specs.declared.ongoing.Unfinished.{Unfinished}
 
 pub before-end : (u : Unfinished) → u .over ≡ 0 → advanced u ≡ afterRound (heldCase u) u
 unfolding advanced

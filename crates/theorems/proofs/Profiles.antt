@@ -14,7 +14,7 @@ use Rattle.semantics.specs.Operations.{caseOf, solveRefusal, solveAnswer, solve
 use Rattle.semantics.specs.Totals.{totalsRefusal, totalsAnswer}
 use Rattle.semantics.specs.Unfinished.{opened, opening, heldInput, begun, heldCase, afterRound, advanced, advanceAnswer, certainOf, asked}
 use Rattle.semantics.specs.Values.{pairCount}
-use Rattle.semantics.specs.declared.unfinished.Unfinished.{Unfinished}
+use Rattle.semantics.specs.declared.ongoing.Unfinished.{Unfinished}
 use Rattle.theorems.specs.Demands.{Reads}
 use Rattle.theorems.specs.Profiles.{AnsweredAlike}
 use Rattle.theorems.specs.Unfinished.{after, solving, heldBy}

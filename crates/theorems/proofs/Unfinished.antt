@@ -19,9 +19,9 @@ use Rattle.fixpoint.proofs.Alternating.{lower-grows, upper-shrinks, lower-insid
 use Rattle.cases.specs.Case.{Case, emptyCase}
 use Rattle.cases.specs.Reading.{outcome}
 use Rattle.cases.proofs.Lengths.{outcome-length}
-use Rattle.semantics.specs.declared.unfinished.Unfinished.{Unfinished}
-use Rattle.semantics.specs.declared.unfinished.Certainty.{Certainty}
-use Rattle.semantics.specs.declared.unfinished.Certainty.the-variants.{Impossible, Open, Sure, NotYet}
+use Rattle.semantics.specs.declared.ongoing.Unfinished.{Unfinished}
+use Rattle.semantics.specs.declared.ongoing.Certainty.{Certainty}
+use Rattle.semantics.specs.declared.ongoing.Certainty.the-variants.{Impossible, Open, Sure, NotYet}
 use Rattle.semantics.specs.Operations.{caseOf, solveAnswer, solveValues}
 use Rattle.semantics.specs.Solving.{rounds, solvedT, solvedP, valuesOf, solvedValues}
 use Rattle.semantics.specs.Stability.{nextSet}

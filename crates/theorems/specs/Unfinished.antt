@@ -5,7 +5,7 @@ use mathlib.Core.List.{List}
 use Rattle.fixpoint.specs.Sets.{collect}
 use Rattle.fixpoint.specs.Stages.{upper}
 use Rattle.cases.specs.Case.{Case}
-use Rattle.semantics.specs.declared.unfinished.Unfinished.{Unfinished}
+use Rattle.semantics.specs.declared.ongoing.Unfinished.{Unfinished}
 use Rattle.semantics.specs.Operations.{caseOf}
 use Rattle.semantics.specs.Stability.{nextSet}
 use Rattle.semantics.specs.Unfinished.{heldInput, begun, advanced}

@@ -5,8 +5,8 @@ use lib.ListN.{length, length-map}
 use mir.Val.{Val}
 use denote.Laws.{Is}
 use denote.Struct.Declared.{row}
-use Rattle.semantics.specs.declared.unfinished.Unfinished.{Unfinished}
-use Rattle.semantics.proofs.unfinished.Unfinished.{the-type}
+use Rattle.semantics.specs.declared.ongoing.Unfinished.{Unfinished}
+use Rattle.semantics.proofs.ongoing.Unfinished.{the-type}
 
 pub record Lengths (u : Unfinished) : Type 0 where
   pub bytes : length (u .bytes) ≡ 8192

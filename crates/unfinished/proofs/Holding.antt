@@ -15,7 +15,7 @@ use Rattle.cases.specs.declared.answers.Parsed.{Parsed}
 use Rattle.reader.specs.Parsing.{ParsedAs}
 use Rattle.semantics.specs.Operations.{caseOf}
 use Rattle.semantics.specs.Unfinished.{heldCase, afterRound, advanced, advanceAnswer}
-use Rattle.semantics.specs.declared.unfinished.Unfinished.{Unfinished}
+use Rattle.semantics.specs.declared.ongoing.Unfinished.{Unfinished}
 use Rattle.semantics.proofs.States.{before-end, after-end}
 use Rattle.unfinished.specs.Rounds.{ValuesWorked}
 

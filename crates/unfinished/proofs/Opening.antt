@@ -17,7 +17,7 @@ use Rattle.cases.proofs.Sound.{outcome-limited}
 use Rattle.semantics.specs.Operations.{caseOf}
 use Rattle.semantics.specs.Unfinished.{copied, opened, opening, heldInput, begun}
 use Rattle.semantics.specs.Values.{pairCount}
-use Rattle.semantics.specs.declared.unfinished.Unfinished.{Unfinished}
+use Rattle.semantics.specs.declared.ongoing.Unfinished.{Unfinished}
 use Rattle.semantics.proofs.Held.{nothing, reads-input, refused-input}
 use Rattle.semantics.proofs.Pairs.{pairs-at-most}
 

@@ -7,10 +7,10 @@ use lib.ListN.{length, getD, List·getD-eq-default}
 use lib.Dec.{eqb}
 use borrow.Author.Tests.{le-leb, lt-leb, eq-eqb, ne-eqb}
 use Rattle.semantics.specs.Unfinished.{certainty, certainOf, replyNumber, asked}
-use Rattle.semantics.specs.declared.unfinished.Unfinished.{Unfinished}
-use Rattle.semantics.specs.declared.unfinished.Certainty.{Certainty}
+use Rattle.semantics.specs.declared.ongoing.Unfinished.{Unfinished}
+use Rattle.semantics.specs.declared.ongoing.Certainty.{Certainty}
 use Rattle.semantics.proofs.States.{asked-within, asked-beyond}
-use Rattle.semantics.specs.declared.unfinished.Certainty.the-variants.{Impossible, Open, Sure, NotYet}
+use Rattle.semantics.specs.declared.ongoing.Certainty.the-variants.{Impossible, Open, Sure, NotYet}
 
 pub behind-end : (l : List ℕ) (k : ℕ) → length l ≤ k → 0 ≡ getD l k 0
 behind-end l k h = sym (List·getD-eq-default l 0 h)

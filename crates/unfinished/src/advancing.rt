@@ -1,8 +1,8 @@
 // Advancing: one round on a state of any contents. The case is read again from its bytes; what does not read is the case without anything.
 use crate::working::work_round;
 use reader::reading::parse;
-use semantics::unfinished::Advanced;
-use semantics::unfinished::Unfinished;
+use semantics::ongoing::Advanced;
+use semantics::ongoing::Unfinished;
 ghost use mathlib.Core.Path.{_≡_};
 ghost use mathlib.Core.Bool.{cond};
 ghost use Prim.Native.Nat.{min};

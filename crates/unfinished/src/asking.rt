@@ -1,8 +1,8 @@
 // Questions: what is certain of a pair so far. Nothing is read or worked out again.
-use semantics::unfinished::Certainty;
-use semantics::unfinished::Reply;
-use semantics::unfinished::Unfinished;
-use semantics::unfinished::reply_number;
+use semantics::ongoing::Certainty;
+use semantics::ongoing::Reply;
+use semantics::ongoing::Unfinished;
+use semantics::ongoing::reply_number;
 ghost use mathlib.Core.Path.{_≡_};
 ghost use lib.ListN.{getD};
 ghost use Rattle.semantics.specs.Unfinished.{asked, certainOf, certainty};

@@ -2,8 +2,8 @@
 use bytes::copy;
 use cases::answers::Reading;
 use reader::reading::read;
-use semantics::unfinished::Begun;
-use semantics::unfinished::Unfinished;
+use semantics::ongoing::Begun;
+use semantics::ongoing::Unfinished;
 ghost use mathlib.Core.Path.{_≡_};
 ghost use Prim.Native.Nat.{_≤_};
 ghost use lib.ListN.{length};
