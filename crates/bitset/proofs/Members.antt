@@ -16,7 +16,7 @@ use borrow.Author.Tests.{eqb-true, eqb-false, eq-eqb, ne-eqb}
 use borrow.Author.Count.{below-more}
 use Rattle.fixpoint.specs.Lists.{from, upTo, all, count}
 use Rattle.fixpoint.proofs.Lists.{length-upTo, upTo-snoc, count-append, count-le-length, all-upTo-in, all-upTo-of, bool-cases, bool-ext, lt-cases}
-use Rattle.bitset.specs.Words.{bit, member, Row, BitAssigned, Inserted, Assigned, Joined, Cleared}
+use Rattle.bitset.specs.Words.{bit, member, HasRow, BitAssigned, Inserted, Assigned, Joined, Cleared}
 use Rattle.bitset.proofs.Bits.{cond-true, bit-and, bit-or, bit-zero, word-ext, ones-count}
 
 -- Bools and tests
@@ -66,7 +66,7 @@ other-row w q r a h n =
     (lt-cases q r)
 
 -- a table of the same length has the same rows
-pub row-kept : {t t′ : List ℕ} {w r : ℕ} → Row t w r → length t′ ≡ length t → Row t′ w r
+pub row-kept : {t t′ : List ℕ} {w r : ℕ} → HasRow t w r → length t′ ≡ length t → HasRow t′ w r
 row-kept f l = record { fits = omega (arith, f .fits) }
 
 -- Members of a row as bits of its words
@@ -78,7 +78,7 @@ member-word t w r i j h =
     ap₂ (λ a b. bit (getD t (r * w + a) 0) b) e f
 
 -- A word with bit b % 64 as told, stored where b belongs
-pub assigned : {t : List ℕ} {w r b y : ℕ} {there : Bool} → Row t w r → b < 64 * w
+pub assigned : {t : List ℕ} {w r b y : ℕ} {there : Bool} → HasRow t w r → b < 64 * w
     → BitAssigned (getD t (r * w + b / 64) 0) (b % 64) there y → Assigned t w r b there (set t (r * w + b / 64) y)
 unfolding member
 assigned {t} {w} {r} {b} {y} {there} f l g = record {
@@ -117,7 +117,7 @@ module _ {t : List ℕ} {w into from : ℕ} where
   joined-none = record { most = omega arith; done = λ k h. absurd (omega arith); kept = λ p h. refl; long = refl }
 
   module _ {t′ : List ℕ} {i : ℕ} where
-    pub joined-more : Row t w into → i < w → JoinedTo t w into from i t′
+    pub joined-more : HasRow t w into → i < w → JoinedTo t w into from i t′
         → JoinedTo t w into from (i + 1) (set t′ (into * w + i) (bitOr (getD t′ (into * w + i) 0) (getD t′ (from * w + i) 0)))
     joined-more f h v =
         let x = bitOr (getD t′ (into * w + i) 0) (getD t′ (from * w + i) 0) in
@@ -161,7 +161,7 @@ module _ {t : List ℕ} {w into from : ℕ} where
     }
 
 -- two words at once
-pub joined-two : {t : List ℕ} {into from : ℕ} → Row t 2 into
+pub joined-two : {t : List ℕ} {into from : ℕ} → HasRow t 2 into
     → Joined t 2 into from
     (set (set t (into * 2) (bitOr (getD t (into * 2) 0) (getD t (from * 2) 0))) (into * 2 + 1) (bitOr (getD t (into * 2 + 1) 0) (getD t (from * 2 + 1) 0)))
 joined-two {t} {into} {from} f =
@@ -242,7 +242,7 @@ last-decides {w} {i} {x} f g e v to of =
     (λ h. to (passed-done (omega arith) (passed-more (omega arith) (eqb-true (f i) (g i) h) v)))
     (λ h. eq-eqb (f i) (g i) (of h))
 
--- Row r of t and row s of u, of w words
+-- HasRow r of t and row s of u, of w words
 module _ (t : List ℕ) (r : ℕ) (u : List ℕ) (s w : ℕ) where
   -- the one is in the other if each word is in its word
   pub subset-of : ((k : ℕ) → k < w → bitAnd (getD t (r * w + k) 0) (getD u (s * w + k) 0) ≡ getD t (r * w + k) 0)

@@ -15,8 +15,12 @@ unfoldable pub member : List ℕ → ℕ → ℕ → ℕ → Bool
 member t w r b = bit (getD t (r * w + b / 64) 0) (b % 64)
 
 -- the table has row r
-pub record Row (t : List ℕ) (w r : ℕ) : Type 0 where
+pub record HasRow (t : List ℕ) (w r : ℕ) : Type 0 where
   pub fits : r * w + w ≤ length t
+
+-- the numbers that word i of a row has are below n
+pub record WordBelow (n i word : ℕ) : Type 0 where
+  pub below : (j : ℕ) → j < 64 → bit word j ≡ true → 64 * i + j < n
 
 -- a word with bit j set
 pub record WithBit (x j y : ℕ) : Type 0 where

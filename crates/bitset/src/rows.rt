@@ -6,11 +6,11 @@ ghost use mathlib.Core.Bool.{_&&_, _||_, not, Bool·beq};
 ghost use Prim.Native.Nat.{_*_, _^_, _<_};
 ghost use lib.ListN.{length};
 ghost use Rattle.fixpoint.specs.Lists.{upTo, all, count};
-ghost use Rattle.bitset.specs.Words.{member, Row, Inserted, Assigned, Joined, Cleared};
+ghost use Rattle.bitset.specs.Words.{member, HasRow, Inserted, Assigned, Joined, Cleared};
 
 // Whether b is in row r.
 pub fn is_member(t: &[u64], w: usize, r: usize, b: usize) -> bool
-    requires { ⌜ Row (now t) w r ⌝ }
+    requires { ⌜ HasRow (now t) w r ⌝ }
     requires { ⌜ b < 64 * w ⌝ }
     ensures { λ x. ⌜ x ≡ member (now (t .entry)) w r b ⌝ }
 {
@@ -20,7 +20,7 @@ pub fn is_member(t: &[u64], w: usize, r: usize, b: usize) -> bool
 
 // Puts b into row r, or takes it out.
 pub fn assign(t: &mut [u64], w: usize, r: usize, b: usize, there: bool)
-    requires { ⌜ Row (now t) w r ⌝ }
+    requires { ⌜ HasRow (now t) w r ⌝ }
     requires { ⌜ b < 64 * w ⌝ }
     ensures { λ _. ⌜ Assigned (now (t .entry)) w r b there (now (t .exit)) ⌝ }
 {
@@ -31,7 +31,7 @@ pub fn assign(t: &mut [u64], w: usize, r: usize, b: usize, there: bool)
 
 // Puts b into row r.
 pub fn insert(t: &mut [u64], w: usize, r: usize, b: usize)
-    requires { ⌜ Row (now t) w r ⌝ }
+    requires { ⌜ HasRow (now t) w r ⌝ }
     requires { ⌜ b < 64 * w ⌝ }
     ensures { λ _. ⌜ Inserted (now (t .entry)) w r b (now (t .exit)) ⌝ }
 {
@@ -40,8 +40,8 @@ pub fn insert(t: &mut [u64], w: usize, r: usize, b: usize)
 
 // Adds row `from` to row `into`. Rows of two words, the commonest, go without a loop.
 pub fn join(t: &mut [u64], w: usize, into: usize, from: usize)
-    requires { ⌜ Row (now t) w into ⌝ }
-    requires { ⌜ Row (now t) w from ⌝ }
+    requires { ⌜ HasRow (now t) w into ⌝ }
+    requires { ⌜ HasRow (now t) w from ⌝ }
     ensures { λ _. ⌜ Joined (now (t .entry)) w into from (now (t .exit)) ⌝ }
 {
     if w == 2 {
@@ -52,8 +52,8 @@ pub fn join(t: &mut [u64], w: usize, into: usize, from: usize)
 }
 
 fn join_two(t: &mut [u64], into: usize, from: usize)
-    requires { ⌜ Row (now t) 2 into ⌝ }
-    requires { ⌜ Row (now t) 2 from ⌝ }
+    requires { ⌜ HasRow (now t) 2 into ⌝ }
+    requires { ⌜ HasRow (now t) 2 from ⌝ }
     ensures { λ _. ⌜ Joined (now (t .entry)) 2 into from (now (t .exit)) ⌝ }
 {
     let low = t[into * 2] | t[from * 2];
@@ -63,8 +63,8 @@ fn join_two(t: &mut [u64], into: usize, from: usize)
 }
 
 fn join_words(t: &mut [u64], w: usize, into: usize, from: usize)
-    requires { ⌜ Row (now t) w into ⌝ }
-    requires { ⌜ Row (now t) w from ⌝ }
+    requires { ⌜ HasRow (now t) w into ⌝ }
+    requires { ⌜ HasRow (now t) w from ⌝ }
     ensures { λ _. ⌜ Joined (now (t .entry)) w into from (now (t .exit)) ⌝ }
 {
     let mut i = 0;
@@ -101,8 +101,8 @@ pub fn copy(t: &mut [u64], u: &[u64])
 
 // Whether all of row r of t is in row s of u. Rows of two words go without a loop, here and below, as in `join`.
 pub fn is_subset(t: &[u64], r: usize, u: &[u64], s: usize, w: usize) -> bool
-    requires { ⌜ Row (now t) w r ⌝ }
-    requires { ⌜ Row (now u) w s ⌝ }
+    requires { ⌜ HasRow (now t) w r ⌝ }
+    requires { ⌜ HasRow (now u) w s ⌝ }
     ensures { λ x. ⌜ x ≡ all (upTo (64 * w)) (λ b. not (member (now (t .entry)) w r b) || member (now (u .entry)) w s b) ⌝ }
 {
     if w == 2 {
@@ -112,8 +112,8 @@ pub fn is_subset(t: &[u64], r: usize, u: &[u64], s: usize, w: usize) -> bool
 }
 
 fn subset_two(t: &[u64], r: usize, u: &[u64], s: usize) -> bool
-    requires { ⌜ Row (now t) 2 r ⌝ }
-    requires { ⌜ Row (now u) 2 s ⌝ }
+    requires { ⌜ HasRow (now t) 2 r ⌝ }
+    requires { ⌜ HasRow (now u) 2 s ⌝ }
     ensures { λ x. ⌜ x ≡ all (upTo (64 * 2)) (λ b. not (member (now (t .entry)) 2 r b) || member (now (u .entry)) 2 s b) ⌝ }
 {
     let low = t[r * 2];
@@ -122,8 +122,8 @@ fn subset_two(t: &[u64], r: usize, u: &[u64], s: usize) -> bool
 }
 
 fn subset_words(t: &[u64], r: usize, u: &[u64], s: usize, w: usize) -> bool
-    requires { ⌜ Row (now t) w r ⌝ }
-    requires { ⌜ Row (now u) w s ⌝ }
+    requires { ⌜ HasRow (now t) w r ⌝ }
+    requires { ⌜ HasRow (now u) w s ⌝ }
     ensures { λ x. ⌜ x ≡ all (upTo (64 * w)) (λ b. not (member (now (t .entry)) w r b) || member (now (u .entry)) w s b) ⌝ }
 {
     let mut i = 0;
@@ -139,8 +139,8 @@ fn subset_words(t: &[u64], r: usize, u: &[u64], s: usize, w: usize) -> bool
 
 // Whether rows r and s of t are the same set.
 pub fn is_same(t: &[u64], r: usize, s: usize, w: usize) -> bool
-    requires { ⌜ Row (now t) w r ⌝ }
-    requires { ⌜ Row (now t) w s ⌝ }
+    requires { ⌜ HasRow (now t) w r ⌝ }
+    requires { ⌜ HasRow (now t) w s ⌝ }
     ensures { λ x. ⌜ x ≡ all (upTo (64 * w)) (λ b. Bool·beq (member (now (t .entry)) w r b) (member (now (t .entry)) w s b)) ⌝ }
 {
     if w == 2 {
@@ -150,16 +150,16 @@ pub fn is_same(t: &[u64], r: usize, s: usize, w: usize) -> bool
 }
 
 fn same_two(t: &[u64], r: usize, s: usize) -> bool
-    requires { ⌜ Row (now t) 2 r ⌝ }
-    requires { ⌜ Row (now t) 2 s ⌝ }
+    requires { ⌜ HasRow (now t) 2 r ⌝ }
+    requires { ⌜ HasRow (now t) 2 s ⌝ }
     ensures { λ x. ⌜ x ≡ all (upTo (64 * 2)) (λ b. Bool·beq (member (now (t .entry)) 2 r b) (member (now (t .entry)) 2 s b)) ⌝ }
 {
     t[r * 2] == t[s * 2] && t[r * 2 + 1] == t[s * 2 + 1]
 }
 
 fn same_words(t: &[u64], r: usize, s: usize, w: usize) -> bool
-    requires { ⌜ Row (now t) w r ⌝ }
-    requires { ⌜ Row (now t) w s ⌝ }
+    requires { ⌜ HasRow (now t) w r ⌝ }
+    requires { ⌜ HasRow (now t) w s ⌝ }
     ensures { λ x. ⌜ x ≡ all (upTo (64 * w)) (λ b. Bool·beq (member (now (t .entry)) w r b) (member (now (t .entry)) w s b)) ⌝ }
 {
     let mut i = 0;
@@ -174,8 +174,8 @@ fn same_words(t: &[u64], r: usize, s: usize, w: usize) -> bool
 
 // How many numbers are both in row r of t and in row s of u: set bits, counted by ones.
 pub fn count_common(t: &[u64], r: usize, u: &[u64], s: usize, w: usize) -> usize
-    requires { ⌜ Row (now t) w r ⌝ }
-    requires { ⌜ Row (now u) w s ⌝ }
+    requires { ⌜ HasRow (now t) w r ⌝ }
+    requires { ⌜ HasRow (now u) w s ⌝ }
     requires { ⌜ 64 * w < 2 ^ 64 ⌝ }
     ensures { λ x. ⌜ x ≡ count (upTo (64 * w)) (λ b. member (now (t .entry)) w r b && member (now (u .entry)) w s b) ⌝ }
 {
@@ -186,8 +186,8 @@ pub fn count_common(t: &[u64], r: usize, u: &[u64], s: usize, w: usize) -> usize
 }
 
 fn count_two(t: &[u64], r: usize, u: &[u64], s: usize) -> usize
-    requires { ⌜ Row (now t) 2 r ⌝ }
-    requires { ⌜ Row (now u) 2 s ⌝ }
+    requires { ⌜ HasRow (now t) 2 r ⌝ }
+    requires { ⌜ HasRow (now u) 2 s ⌝ }
     ensures { λ x. ⌜ x ≡ count (upTo (64 * 2)) (λ b. member (now (t .entry)) 2 r b && member (now (u .entry)) 2 s b) ⌝ }
 {
     let low = u64::count_ones(t[r * 2] & u[s * 2]) as usize;
@@ -196,8 +196,8 @@ fn count_two(t: &[u64], r: usize, u: &[u64], s: usize) -> usize
 }
 
 fn count_words(t: &[u64], r: usize, u: &[u64], s: usize, w: usize) -> usize
-    requires { ⌜ Row (now t) w r ⌝ }
-    requires { ⌜ Row (now u) w s ⌝ }
+    requires { ⌜ HasRow (now t) w r ⌝ }
+    requires { ⌜ HasRow (now u) w s ⌝ }
     requires { ⌜ 64 * w < 2 ^ 64 ⌝ }
     ensures { λ x. ⌜ x ≡ count (upTo (64 * w)) (λ b. member (now (t .entry)) w r b && member (now (u .entry)) w s b) ⌝ }
 {

@@ -14,12 +14,13 @@ use Rattle.cases.specs.Rows.{caseIn}
 use Rattle.cases.specs.declared.answers.Refusal.{Refusal}
 use Rattle.cases.specs.declared.counts.Counts.{Counts}
 use Rattle.fillers.specs.CaseTables.{Tables}
-use Rattle.rules.proofs.InTables.{pair-count}
+use Rattle.fillers.proofs.InTables.{pair-count}
 use Rattle.semantics.specs.Operations.{orElse, firstOf, refuse, levelsIn, valueFault, pairFault}
 use Rattle.semantics.specs.Values.{pairCount, byteSays, saidNumber, isValue, supportedAt}
 use Rattle.semantics.specs.declared.value.Said.{Said}
 use Rattle.semantics.proofs.Refusing.{zero-cases, orElse-next, orElse-this, unless-none, unless-place, refuse-none, first-refuses, Well, well-first, well-all, well-of}
-use Rattle.checker.specs.Sets.{Threshold, Proposed}
+use Rattle.checker.specs.Sets.{Proposed}
+use Rattle.pairs.specs.Sets.{Threshold}
 use Rattle.checker.specs.Checking.{valueFaultIn, ProposedUnless, unsupported, LevelRoom, LevelsChecked}
 use Rattle.semantics.specs.OldCode.{supportFault}
 

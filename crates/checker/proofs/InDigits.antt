@@ -14,12 +14,12 @@ use mir.Syntax.{w64}
 use mir.Val.{Fits}
 use borrow.Author.Tests.{eqb-true, eqb-false, eq-eqb, ne-eqb, lt-ltb, le-ltb}
 use Rattle.fixpoint.proofs.Lists.{by-test, lt-cases}
-use Rattle.bitset.specs.Words.{bit, member, Row, Inserted, Cleared, Without, WithoutBit, Lowest}
+use Rattle.bitset.specs.Words.{bit, member, HasRow, Inserted, Cleared, Without, WithoutBit, Lowest}
 use Rattle.bitset.proofs.Bits.{bit-zero, bit-and, bit-or, bit-high, bit-ones}
 use Rattle.bitset.proofs.Members.{rows-apart, member-word}
 use Rattle.cases.specs.declared.counts.Size.{Size}
 use Rattle.checker.specs.Sets.{levelAt}
-use Rattle.checker.proofs.Raised.{one-more}
+use Rattle.pairs.proofs.Raised.{one-more}
 use Rattle.checker.specs.Digits.{HasDigits, DigitsInserted, DigitsOf, LowerNext, SameNext, LowerIn}
 
 -- ---- A number is put into the rows of the digits of x: it is in those outside `rest`
@@ -47,7 +47,7 @@ module _ {t : List ℕ} {w a x : ℕ} where
   }
 
   module _ {rest : ℕ} {t′ : List ℕ} (v : InsertedBut rest t w a x t′) where
-    pub inserted-row : {k : ℕ} → Lowest rest k → x < 65536 → 16 * w ≤ length t → Row t′ w k
+    pub inserted-row : {k : ℕ} → Lowest rest k → x < 65536 → 16 * w ≤ length t → HasRow t′ w k
     inserted-row {k} low h l = record {
       fits = omega (arith, rows-apart w k 16 (digit-below x k h (v .some k (low .below) (low .there))), v .long);
     }

@@ -11,7 +11,7 @@ use lib.Dec.{eqb, leb, ltb}
 use borrow.Author.Tests.{le-ltb, ltb-true, leb-true, leb-false, ne-eqb, eq-eqb, eqb-true}
 use Rattle.fixpoint.specs.Lists.{any, upTo, all, count}
 use Rattle.fixpoint.proofs.Lists.{or-left, getD-made}
-use Rattle.bitset.specs.Words.{member, Row}
+use Rattle.bitset.specs.Words.{member, HasRow}
 use Rattle.bitset.proofs.Members.{rows-apart}
 use Rattle.cases.specs.Case.{Case, references, pathsOfShape}
 use Rattle.cases.specs.Counts.{sizeOf}
@@ -25,9 +25,9 @@ use Rattle.cases.specs.declared.counts.Size.{Size}
 use Rattle.cases.specs.declared.numbers.Shape.{Shape}
 use Rattle.cases.specs.declared.numbers.Path.{Path}
 use Rattle.fillers.specs.CaseTables.{Tables}
-use Rattle.rules.specs.Kernel.{RuleFits}
-use Rattle.rules.proofs.Holding.{fillers-all, fillers-counted}
-use Rattle.rules.proofs.InTables.{pair-count}
+use Rattle.checker.specs.Rules.{RuleFits}
+use Rattle.checker.proofs.Holding.{fillers-all, fillers-counted}
+use Rattle.fillers.proofs.InTables.{pair-count}
 use Rattle.semantics.specs.Levels.{ruleSupport, supportBelow, pairSupport, justifiedAt}
 use Rattle.semantics.specs.Operations.{refuseUnless, levelsIn}
 use Rattle.semantics.specs.Paths.{fills}
@@ -35,7 +35,8 @@ use Rattle.semantics.specs.Stability.{holds}
 use Rattle.semantics.specs.Values.{pairCount, entryAt, supportedAt}
 use Rattle.semantics.proofs.Kernel.{first-of}
 use Rattle.semantics.proofs.Thresholds.{support-by-tests}
-use Rattle.checker.specs.Sets.{levelAt, isLow, LevelRow, RowBelow, Threshold, Proposed}
+use Rattle.checker.specs.Sets.{levelAt, isLow, LevelRow, RowBelow, Proposed}
+use Rattle.pairs.specs.Sets.{Threshold}
 use Rattle.checker.specs.Digits.{DigitsOf, DigitsUnless, DigitsFit}
 use Rattle.checker.specs.Checking.{RuleIn, justifiedIn, LevelsFit, SupportBelow, LevelSuffices, LevelsRead, PairJustified, unjustified, ShapeJustified, RowJustified, PathThere, PathsThere, LevelRoom, LevelsChecked}
 use Rattle.checker.proofs.Passing.{WellFrom, well-start, well-next, first-found, first-none-found, RowsWell, rows-well-none, rows-well-more, rows-well-first, rows-well-all}
@@ -71,7 +72,7 @@ pub digits-there : {r r′ : ShapeRule} {size : Size} {s used : ℕ} {levels dig
 digits-there {s = s} f e named = f .right s (rw e named)
 
 module _ {p : ℕ} {size : Size} {sets : List ℕ} (f : PathThere p size sets) {a : ℕ} (h : a < size .nodes) where
-  pub path-row : {m : ℕ} → m ≡ 1 + p * size .nodes + a → Row sets (size .words) m
+  pub path-row : {m : ℕ} → m ≡ 1 + p * size .nodes + a → HasRow sets (size .words) m
   path-row e = rw e (f .rows a h)
 
   pub path-small : length sets < 2 ^ 64 → 1 + p * size .nodes + a < 2 ^ 64

@@ -14,11 +14,10 @@ use mir.Val.{Fits}
 use borrow.Author.Tests.{eqb-true}
 use Rattle.fixpoint.specs.Lists.{upTo, from, all, count}
 use Rattle.fixpoint.proofs.Lists.{bool-cases, lt-cases, all-upTo-of, all-upTo-in, count-le-length, length-upTo, by-test}
-use Rattle.bitset.specs.Words.{bit, member, WithBitIf, WithoutBit, Lowest}
+use Rattle.bitset.specs.Words.{bit, member, WithBitIf, WithoutBit, Lowest, WordBelow}
 use Rattle.bitset.proofs.Bits.{bit-zero, bit-and, word-ext, ones-count}
 use Rattle.bitset.proofs.Members.{member-word, count-word}
 use Rattle.cases.specs.declared.counts.Size.{Size}
-use Rattle.rules.specs.Kernel.{Asked}
 use Rattle.checker.specs.Digits.{DigitsUnless, LowerIn}
 use Rattle.checker.specs.Sets.{levelAt, isLow, LevelRow, RowBelow, WordWhere}
 
@@ -36,11 +35,11 @@ module _ {test : ℕ → Bool} {word i : ℕ} where
   }
 
   module _ {rest passing : ℕ} (v : SortedBut rest test word i passing) where
-    pub sorted-node : {j : ℕ} {size : Size} → Asked word i size → Lowest rest j → 64 * i + j < size .nodes
+    pub sorted-node : {j n : ℕ} → WordBelow n i word → Lowest rest j → 64 * i + j < n
     sorted-node {j} nodes low = nodes .below j (low .below) (v .some j (low .below) (low .there))
 
     -- and so small that its number fits a word
-    module _ {j s : ℕ} {size : Size} {levels : List ℕ} (nodes : Asked word i size) (low : Lowest rest j) (row : LevelRow levels size s) (l : length levels < 2 ^ 64) where
+    module _ {j s : ℕ} {size : Size} {levels : List ℕ} (nodes : WordBelow (size .nodes) i word) (low : Lowest rest j) (row : LevelRow levels size s) (l : length levels < 2 ^ 64) where
       pub sorted-base : Fits w64 (64 * i)
       sorted-base = record { fits = omega (arith, sorted-node nodes low, row .fits) }
 
@@ -73,7 +72,7 @@ module _ {levels : List ℕ} {size : Size} {s : ℕ} {digits : List ℕ} {used :
   pub digits-few : used ≤ 16
   digits-few = d .right (f y) .few
 
-  pub lower-by-digits : {word i bound lower : ℕ} → Asked word i size → LowerIn digits (size .words) used i bound lower → WordWhere (isLow levels bound size s) word i (bitAnd word lower)
+  pub lower-by-digits : {word i bound lower : ℕ} → WordBelow (size .nodes) i word → LowerIn digits (size .words) used i bound lower → WordWhere (isLow levels bound size s) word i (bitAnd word lower)
   lower-by-digits {word} {i} {bound} {lower} nodes u = record {
     bits = λ j h.
         bit-and word lower j
@@ -85,12 +84,12 @@ module _ {levels : List ℕ} {size : Size} {s : ℕ} {digits : List ℕ} {used :
 -- ---- The words of a row hold nodes
 
 module _ {sets : List ℕ} {row : ℕ} {size : Size} (r : RowBelow sets row size) where
-  pub asked-row : {i : ℕ} → i < size .words → Asked (getD sets (row * size .words + i) 0) i size
+  pub asked-row : {i : ℕ} → i < size .words → WordBelow (size .nodes) i (getD sets (row * size .words + i) 0)
   asked-row {i} h = record {
     below = λ j l e. r .each (64 * i + j) (omega arith) (member-word sets (size .words) row i j l ∙ e);
   }
 
-  pub asked-common : {i : ℕ} (x : ℕ) → i < size .words → Asked (bitAnd (getD sets (row * size .words + i) 0) x) i size
+  pub asked-common : {i : ℕ} (x : ℕ) → i < size .words → WordBelow (size .nodes) i (bitAnd (getD sets (row * size .words + i) 0) x)
   asked-common {i} x h = record {
     below = λ j l e. asked-row h .below j l (and-eq-true-iff _ (bit x j) .0 (sym (bit-and (getD sets (row * size .words + i) 0) x j) ∙ e) .0);
   }

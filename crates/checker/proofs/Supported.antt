@@ -10,7 +10,7 @@ use lib.Dec.{eqb, leb}
 use borrow.Author.Tests.{le-leb, lt-leb, leb-true, lt-ltb, not-true, not-false}
 use Rattle.fixpoint.specs.Lists.{any, upTo, all, count}
 use Rattle.fixpoint.proofs.Lists.{bool-ext}
-use Rattle.bitset.specs.Words.{member, Row}
+use Rattle.bitset.specs.Words.{member, HasRow}
 use Rattle.bitset.proofs.Members.{rows-apart}
 use Rattle.cases.specs.Case.{Case, shapeRule, references}
 use Rattle.cases.specs.Counts.{wordsOf, sizeOf}
@@ -26,9 +26,10 @@ use Rattle.cases.specs.declared.numbers.Node.{Node}
 use Rattle.cases.specs.declared.numbers.Shape.{Shape}
 use Rattle.cases.specs.declared.numbers.Path.{Path}
 use Rattle.fillers.specs.CaseTables.{Tables}
-use Rattle.rules.specs.Kernel.{TablesFit, RuleFits, KernelOf}
-use Rattle.rules.proofs.Holding.{RuleHolds, holds-same, holds-all, holds-least}
-use Rattle.rules.proofs.InTables.{pair-count, kernel-there, tables-fit}
+use Rattle.checker.specs.Rules.{TablesFit, RuleFits, KernelOf}
+use Rattle.checker.proofs.Holding.{RuleHolds, holds-same, holds-all, holds-least}
+use Rattle.fillers.proofs.InTables.{pair-count}
+use Rattle.checker.proofs.RulesThere.{kernel-there, tables-fit}
 use Rattle.semantics.specs.declared.value.Said.{Said}
 use Rattle.semantics.specs.declared.value.Said.the-variants.{Is, Above}
 use Rattle.semantics.specs.declared.value.Value.{Value}
@@ -188,14 +189,14 @@ module _ {r : ShapeRule} {a : ℕ} {size : Size} {sets values : List ℕ} where
 -- ---- A pair and its rule
 
 module _ {counts : Counts} {rows sets : List ℕ} (t : Tables counts rows sets) {size : Size} (q : size ≡ sizeOf counts) where
-  pub live-row : Row sets (size .words) 0
+  pub live-row : HasRow sets (size .words) 0
   live-row = rw q (record { fits = omega (arith, t .set-room, rows-apart (wordsOf counts) 0 (1 + counts .paths * counts .nodes) (omega arith)) })
 
   module _ {s : ℕ} (l : s < counts .shapes) where
     pub shape-small : s < 32
     shape-small = omega (arith, t .few)
 
-    pub shape-row : {set : List ℕ} → 64 ≤ length set → Row set (size .words) s
+    pub shape-row : {set : List ℕ} → 64 ≤ length set → HasRow set (size .words) s
     shape-row m = rw q (record { fits = omega (arith, t .pairs-fit, rows-apart (wordsOf counts) s (counts .shapes) l) })
 
     pub shape-valued : {values valid possible : List ℕ} → Proposed counts values valid possible → s * size .nodes + size .nodes ≤ length values

@@ -5,7 +5,7 @@ use mathlib.Core.Bool.{Bool, true, cond}
 use mathlib.Core.List.{List}
 use lib.ListN.{length, getD}
 use lib.Dec.{eqb, leb}
-use Rattle.bitset.specs.Words.{member, Row}
+use Rattle.bitset.specs.Words.{member, HasRow}
 use Rattle.cases.specs.Case.{Case, references, pathsOfShape}
 use Rattle.cases.specs.Faults.{shapeLeastPositive}
 use Rattle.cases.specs.Counts.{sizeOf}
@@ -16,12 +16,13 @@ use Rattle.cases.specs.declared.counts.Size.{Size}
 use Rattle.cases.specs.declared.answers.Refusal.{Refusal}
 use Rattle.fillers.specs.CaseTables.{Tables}
 use Rattle.fixpoint.specs.Lists.{any, upTo}
-use Rattle.rules.specs.Kernel.{TablesFit, KernelOf}
+use Rattle.checker.specs.Rules.{TablesFit, KernelOf}
 use Rattle.semantics.specs.Levels.{supportBelow, justifiedAt}
 use Rattle.semantics.specs.Operations.{firstOf, refuse, refuseUnless, levelsIn}
 use Rattle.semantics.specs.Values.{pairCount, entryAt, ruleValue, byteSays, saidNumber, supportedAt}
 use Rattle.checker.specs.Digits.{DigitsFit}
-use Rattle.checker.specs.Sets.{levelAt, Threshold, Proposed, LevelRow, RowBelow}
+use Rattle.checker.specs.Sets.{levelAt, Proposed, LevelRow, RowBelow}
+use Rattle.pairs.specs.Sets.{Threshold}
 
 -- 13: the first of so many pairs whose byte says no value
 abbrev pub valueFaultIn : List ℕ → ℕ → Refusal
@@ -100,8 +101,8 @@ pub record LevelsRead (rule : ShapeRule) (s : ℕ) (size : Size) (sets valid pos
   pub tables : TablesFit rule size sets valid possible
   pub levels-fit : LevelsFit rule size sets levels
   pub digits-fit : DigitsFit rule size levels digits used
-  pub own-valid : Row valid (size .words) s
-  pub own-possible : Row possible (size .words) s
+  pub own-valid : HasRow valid (size .words) s
+  pub own-possible : HasRow possible (size .words) s
   pub own-levels : LevelRow levels size s
 
 -- shape s at node a is justified, if the pair is supported, with the values whose sets these are
@@ -126,7 +127,7 @@ pub record RowJustified (rule : ShapeRule) (s : ℕ) (size : Size) (sets valid p
 pub record PathThere (p : ℕ) (size : Size) (sets : List ℕ) : Type 0 where
   pub wide : size .nodes ≤ 64 * size .words
   pub narrow : size .words ≤ 8
-  pub rows : (a : ℕ) → a < size .nodes → Row sets (size .words) (1 + p * size .nodes + a)
+  pub rows : (a : ℕ) → a < size .nodes → HasRow sets (size .words) (1 + p * size .nodes + a)
 
 pub record PathsThere (r : ShapeRule) (size : Size) (sets : List ℕ) : Type 0 where
   pub each : (p : ℕ) → any (pathsOfShape r) (λ q. eqb q p) ≡ true → PathThere p size sets

@@ -2,27 +2,16 @@
 -- of shape s. Assumes nothing.
 use Prim.Native.Nat.{ℕ, _+_, _*_, _<_, _≤_}
 use mathlib.Core.Path.{_≡_}
-use mathlib.Core.Bool.{Bool, true, _&&_, _||_}
+use mathlib.Core.Bool.{Bool, true, _&&_}
 use mathlib.Core.List.{List}
 use lib.ListN.{length, getD}
-use lib.Dec.{eqb, leb, ltb}
+use lib.Dec.{ltb}
 use Rattle.bitset.specs.Words.{bit, member}
-use Rattle.cases.specs.Counts.{wordsOf}
 use Rattle.cases.specs.declared.counts.Counts.{Counts}
 use Rattle.cases.specs.declared.counts.Size.{Size}
+use Rattle.pairs.specs.Sets.{Threshold}
 
 -- ---- By value
-
--- the nodes at which shape s has at least a value were added to its row
-pub record RowRaised (size : Size) (s : ℕ) (values : List ℕ) (least : ℕ) (t t′ : List ℕ) : Type 0 where
-  pub members : (q a : ℕ) → a < size .nodes
-      → member t′ (size .words) q a ≡ ((eqb q s && leb least (getD values (s * size .nodes + a) 0)) || member t (size .words) q a)
-  pub long : length t′ ≡ length t
-
--- the table is the set of the pairs of at least a value
-pub record Threshold (counts : Counts) (values : List ℕ) (least : ℕ) (t : List ℕ) : Type 0 where
-  pub members : (s a : ℕ) → s < counts .shapes → a < counts .nodes → member t (wordsOf counts) s a ≡ leb least (getD values (s * counts .nodes + a) 0)
-  pub long : 64 ≤ length t
 
 -- every number is a value, and the tables are the sets of the valid and of the possible pairs
 pub record Proposed (counts : Counts) (values valid possible : List ℕ) : Type 0 where

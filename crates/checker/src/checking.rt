@@ -2,10 +2,10 @@
 // only stand below the first 14, and the pairs there are supported. Without levels that is all.
 use crate::justification::level_fault;
 use crate::support::support_fault;
-use crate::thresholds::fill;
 use cases::answers::Refusal;
 use cases::answers::no_refusal;
 use cases::counts::Counts;
+use pairs::thresholds::fill;
 use semantics::refusals::or_else;
 use semantics::refusals::refuse;
 use semantics::value::Value;

@@ -3,4 +3,3 @@ pub mod checking;
 pub mod digits;
 pub mod justification;
 pub mod support;
-pub mod thresholds;

@@ -13,18 +13,18 @@ use cases::counts::size_of;
 use cases::numbers::Node;
 use cases::numbers::Shape;
 use cases::rows::shape_in;
-use rules::places::filler_row;
+use fillers::places::filler_row;
+use pairs::writing::value_of;
 use semantics::refusals::refuse_unless;
 use semantics::value::Said;
 use semantics::value::Value;
-use values::writing::value_of;
 ghost use mathlib.Core.Path.{_≡_};
 ghost use Prim.Native.Nat.{_+_, _*_, _<_, _≤_};
 ghost use lib.ListN.{length, getD};
-ghost use Rattle.bitset.specs.Words.{Row};
+ghost use Rattle.bitset.specs.Words.{HasRow};
 ghost use Rattle.cases.specs.Rows.{caseIn};
 ghost use Rattle.fillers.specs.CaseTables.{Tables};
-ghost use Rattle.rules.specs.Kernel.{TablesFit, RuleFits};
+ghost use Rattle.checker.specs.Rules.{TablesFit, RuleFits};
 ghost use Rattle.semantics.specs.OldCode.{supportFault};
 ghost use Rattle.checker.specs.Sets.{Proposed};
 ghost use Rattle.checker.specs.Checking.{ValuesFit, RuleGives, PairGives, RowSupported, ShapeSupported};
@@ -96,7 +96,7 @@ fn pair_value(
 ) -> Value
     requires { ⌜ RuleFits rule (a .0) size (now sets) (now valid) (now possible) ⌝ }
     requires { ⌜ ValuesFit rule size (now values) (now valid) (now possible) ⌝ }
-    requires { ⌜ Row (now sets) (size .words) 0 ⌝ }
+    requires { ⌜ HasRow (now sets) (size .words) 0 ⌝ }
     ensures { λ r. ⌜ PairGives rule (a .0) size (now (sets .entry)) (now (values .entry)) (r .0) ⌝ }
 {
     if !is_member(sets, size.words, 0, a.0) {
@@ -117,7 +117,7 @@ fn unsupported_row(
 ) -> Refusal
     requires { ⌜ TablesFit rule size (now sets) (now valid) (now possible) ⌝ }
     requires { ⌜ ValuesFit rule size (now values) (now valid) (now possible) ⌝ }
-    requires { ⌜ Row (now sets) (size .words) 0 ⌝ }
+    requires { ⌜ HasRow (now sets) (size .words) 0 ⌝ }
     requires { ⌜ s .0 * size .nodes + size .nodes ≤ length (now values) ⌝ }
     ensures { λ r. ⌜ RowSupported rule (s .0) size (now (sets .entry)) (now (values .entry)) r ⌝ }
 {

@@ -6,3 +6,4 @@ pub mod Filling
 pub mod Making
 pub mod Turning
 pub mod Prepared
+pub mod InTables

@@ -5,5 +5,6 @@
 pub mod converse;
 pub mod edges;
 pub mod paths;
+pub mod places;
 pub mod table;
 pub mod wanted;

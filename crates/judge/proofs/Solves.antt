@@ -24,7 +24,7 @@ use Rattle.fixpoint.proofs.Alternating.{solved-stable}
 use Rattle.fixpoint.proofs.Lists.{length-made}
 use Rattle.levels.specs.Running.{LevelsWritten}
 use Rattle.reader.specs.Parsing.{ParsedAs}
-use Rattle.rules.proofs.Sets.{has-setIn}
+use Rattle.pairs.proofs.Sets.{has-setIn}
 use Rattle.semantics.specs.declared.answers.Solution.{Solution}
 use Rattle.semantics.specs.Operations.{orElse, refuseUnless, tooShort, counted, written, tally, levelBytes, solution, solveFault, solveRefusal, solveAnswer, solveValues, solveLevels, solveVerdicts}
 use Rattle.semantics.specs.Solving.{solvedT, solvedP, solvedValues, levelsOf, solvedLevels, targetValues, verdicts}
@@ -35,8 +35,8 @@ use Rattle.semantics.proofs.Kernel.{rule-system}
 use Rattle.semantics.proofs.Solved.{solved-length}
 use Rattle.semantics.proofs.Refusing.{orElse-none, unless-none, written-refused, length-levelBytes}
 use Rattle.solver.specs.Rounding.{SetsSolved}
-use Rattle.values.specs.Tables.{valuesIn, ValuesWritten, VerdictsWritten}
-use Rattle.values.proofs.Valued.{values-are}
+use Rattle.pairs.specs.Values.{valuesIn, ValuesWritten, VerdictsWritten}
+use Rattle.pairs.proofs.Valued.{values-are}
 use Rattle.judge.specs.Solved.{SolvedAs, NumberedAs, shortSolve, refusedSolution, SolveRoom, AssignmentWritten, TablesWritten, CaseSolved}
 use Rattle.judge.proofs.Parsed.{parsed-refusal, parsed-case, pairs-in, targets-count}
 

@@ -24,8 +24,8 @@ use Rattle.semantics.specs.Totals.{nodeTally, totalsFault, totalsRefusal, total
 use Rattle.semantics.specs.Values.{pairOf, entryAt}
 use Rattle.semantics.proofs.Refusing.{orElse-none, unless-none}
 use Rattle.solver.specs.Rounding.{SetsSolved}
-use Rattle.values.specs.Tables.{nodeValues}
-use Rattle.values.proofs.Valued.{node-values-are}
+use Rattle.pairs.specs.Values.{nodeValues}
+use Rattle.pairs.proofs.Valued.{node-values-are}
 use Rattle.judge.specs.Totalled.{refusedTotals}
 use Rattle.judge.proofs.Parsed.{parsed-refusal, parsed-case}
 use Rattle.judge.proofs.Solves.{values-solved}

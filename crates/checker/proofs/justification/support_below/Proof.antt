@@ -2,7 +2,7 @@
 use native.Mathlib.Omega.{arith}
 use mathlib.Core.Path.{refl}
 use borrow.Author.Needs.{needs}
-use Rattle.rules.proofs.Holding.{or-first, or-second, all-small, all-path, least-small, least-path, least-shape}
+use Rattle.checker.proofs.Holding.{or-first, or-second, all-small, all-path, least-small, least-path, least-shape}
 use Rattle.semantics.proofs.Kernel.{first-of, second-of}
 use Rattle.semantics.specs.Levels.{supportBelow}
 use Rattle.cases.specs.Case.{references, pathsOfShape}

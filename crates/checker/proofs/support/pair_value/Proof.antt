@@ -1,6 +1,6 @@
 -- `checker::support::pair_value` meets its contract. Assumes nothing.
 use borrow.Author.Needs.{needs}
-use Rattle.rules.proofs.Holding.{node-fits}
+use Rattle.checker.proofs.Holding.{node-fits}
 use Rattle.checker.proofs.Supported.{pair-live, pair-dead}
 use Rattle.checker.proofs.support.pair_value.Statement.{statement}
 use Rattle.checker.proofs.support.pair_value.Tie as tie

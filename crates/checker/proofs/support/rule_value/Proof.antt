@@ -3,7 +3,7 @@ use native.Mathlib.Omega.{arith}
 use borrow.Author.Needs.{needs}
 use Rattle.cases.specs.Case.{references}
 use Rattle.semantics.proofs.Kernel.{first-of, second-of}
-use Rattle.rules.proofs.Holding.{same-first-small, same-second-small, all-small, least-small, same-first, same-second, all-path, all-shape, least-path, least-shape}
+use Rattle.checker.proofs.Holding.{same-first-small, same-second-small, all-small, least-small, same-first, same-second, all-path, all-shape, least-path, least-shape}
 use Rattle.checker.proofs.Supported.{value-there, value-small, tables-swapped, gives-top, gives-node, gives-and, gives-or, gives-not, gives-same, gives-all-valid, gives-all, gives-least-valid, gives-least}
 use Rattle.checker.proofs.support.rule_value.Statement.{statement}
 use Rattle.checker.proofs.support.rule_value.Tie as tie

@@ -1,0 +1,6 @@
+-- The laws of places in a table of pairs, of tables as sets of pairs, of sets by value, of values and verdicts as bytes, and of tallies.
+pub mod WordPlaces
+pub mod Sets
+pub mod Raised
+pub mod Valued
+pub mod Tallying

@@ -1,3 +1,0 @@
--- The laws of values in tables and of tallies.
-pub mod Valued
-pub mod Tallying

@@ -1,2 +1,0 @@
--- What the tables of values and verdicts hold.
-pub mod Tables
