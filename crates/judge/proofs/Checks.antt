@@ -18,7 +18,8 @@ use Rattle.semantics.specs.Operations.{orElse, tooShort, counted, tally, caseOf
 use Rattle.semantics.specs.Solving.{targetValues}
 use Rattle.semantics.specs.Values.{pairCount}
 use Rattle.semantics.proofs.Refusing.{orElse-next, orElse-this, orElse-none, orElse-assoc, unless-none}
-use Rattle.judge.specs.Checked.{shortCheck, refusedChecked, proposalFault}
+use Rattle.judge.specs.Checked.{shortCheck, proposalFault}
+use Rattle.semantics.specs.Refused.{refusedChecked}
 use Rattle.judge.proofs.Parsed.{parsed-refusal, parsed-case, pairs-in}
 
 -- a refusal's answer

@@ -16,7 +16,7 @@ use Rattle.semantics.specs.OldCode.{oldFault, oldRefusal, withOldCode, oldAnswe
 use Rattle.semantics.specs.Operations.{orElse, refuseUnless, tooShort, caseOf, checked}
 use Rattle.semantics.specs.Values.{pairCount}
 use Rattle.semantics.proofs.Refusing.{orElse-next, orElse-this, orElse-none, orElse-assoc, unless-none}
-use Rattle.judge.specs.Checked.{refusedChecked}
+use Rattle.semantics.specs.Refused.{refusedChecked}
 use Rattle.judge.specs.Supported.{supportedFault}
 use Rattle.judge.proofs.Checks.{refused-is}
 use Rattle.judge.proofs.Parsed.{parsed-refusal, parsed-case, pairs-in}

@@ -37,7 +37,8 @@ use Rattle.semantics.proofs.Refusing.{orElse-none, unless-none, written-refused
 use Rattle.solver.specs.Rounding.{SetsSolved}
 use Rattle.pairs.specs.Values.{valuesIn, ValuesWritten, VerdictsWritten}
 use Rattle.pairs.proofs.Valued.{values-are}
-use Rattle.judge.specs.Solved.{SolvedAs, NumberedAs, shortSolve, refusedSolution, SolveRoom, AssignmentWritten, TablesWritten, CaseSolved}
+use Rattle.judge.specs.Solved.{SolvedAs, NumberedAs, shortSolve, SolveRoom, AssignmentWritten, TablesWritten, CaseSolved}
+use Rattle.semantics.specs.Refused.{refusedSolution}
 use Rattle.judge.proofs.Parsed.{parsed-refusal, parsed-case, pairs-in, targets-count}
 
 -- ---- The refusal

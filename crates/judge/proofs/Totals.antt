@@ -26,7 +26,7 @@ use Rattle.semantics.proofs.Refusing.{orElse-none, unless-none}
 use Rattle.solver.specs.Rounding.{SetsSolved}
 use Rattle.pairs.specs.Values.{nodeValues}
 use Rattle.pairs.proofs.Valued.{node-values-are}
-use Rattle.judge.specs.Totalled.{refusedTotals}
+use Rattle.semantics.specs.Refused.{refusedTotals}
 use Rattle.judge.proofs.Parsed.{parsed-refusal, parsed-case}
 use Rattle.judge.proofs.Solves.{values-solved}
 

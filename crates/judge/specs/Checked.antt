@@ -5,7 +5,6 @@ use lib.Dec.{leb}
 use Rattle.cases.specs.Case.{Case}
 use Rattle.cases.specs.declared.answers.Refusal.{Refusal}
 use Rattle.cases.specs.declared.counts.Counts.{Counts}
-use Rattle.semantics.specs.declared.answers.Checked.{Checked}
 use Rattle.semantics.specs.Operations.{orElse, refuseUnless, valueFault, pairFault, levelsIn}
 use Rattle.semantics.specs.Values.{pairCount}
 
@@ -18,7 +17,3 @@ shortCheck counts values levels =
 -- 13, 14 and 15, of a proposal whose tables are long enough
 abbrev pub proposalFault : Case → List ℕ → List ℕ → Refusal
 proposalFault c values levels = orElse (valueFault c values) (pairFault c values (levelsIn (pairCount c) levels))
-
--- the answer of a refusal: no counts
-abbrev pub refusedChecked : Refusal → Checked
-refusedChecked r = record { number = r .number; place = r .place; undetermined = 0; valid = 0 }

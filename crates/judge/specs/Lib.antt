@@ -2,5 +2,4 @@
 pub mod Solved
 pub mod Checked
 pub mod Ranked
-pub mod Totalled
 pub mod Supported

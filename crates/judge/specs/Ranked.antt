@@ -3,13 +3,9 @@
 use Prim.Native.Nat.{ℕ}
 use mathlib.Core.Path.{_≡_}
 use mathlib.Core.List.{List}
-use Rattle.cases.specs.declared.answers.Refusal.{Refusal}
 use Rattle.semantics.specs.declared.answers.Ranked.{Ranked}
 use Rattle.semantics.specs.Operations.{rankAnswer, rankStrata}
 
 pub record CaseRanked (s strata : List ℕ) (r : Ranked) (strata′ : List ℕ) : Type 0 where
   pub answer : r ≡ rankAnswer s strata
   pub strata-left : strata′ ≡ rankStrata s strata
-
-abbrev pub rankedBy : Refusal → ℕ → Ranked
-rankedBy r strata = record { number = r .number; place = r .place; strata = strata }

@@ -36,10 +36,6 @@ shortSolve counts values levels verdicts =
     (orElse (refuseUnless (leb (2 * (counts .shapes * counts .nodes)) levels) 11 (2 * (counts .shapes * counts .nodes)))
     (refuseUnless (leb (counts .targets) verdicts) 12 (counts .targets)))
 
--- "each count that it carries, rounds and strata included, is 0"
-abbrev pub refusedSolution : Refusal → Solution
-refusedSolution r = record { number = r .number; place = r .place; rounds = 0; valid = 0; undetermined = 0; sure = 0; «open» = 0; impossible = 0 }
-
 -- the tables are long enough
 pub record SolveRoom (counts : Counts) (values levels verdicts : List ℕ) : Type 0 where
   pub value-room : counts .shapes * counts .nodes ≤ length values

@@ -17,19 +17,7 @@ ghost use lib.ListN.{length};
 ghost use Rattle.cases.specs.Counts.{Fit};
 ghost use Rattle.cases.specs.Rows.{CaseIn, caseIn};
 ghost use Rattle.semantics.specs.Operations.{checked, checkAnswer};
-ghost use Rattle.judge.specs.Checked.{shortCheck, refusedChecked, proposalFault};
-
-// The answer of a refusal: its number and place, and no counts.
-pub fn refused(refusal: Refusal) -> Checked
-    ensures { λ r. ⌜ r ≡ refusedChecked refusal ⌝ }
-{
-    Checked {
-        number: refusal.number,
-        place: refusal.place,
-        undetermined: 0,
-        valid: 0,
-    }
-}
+ghost use Rattle.judge.specs.Checked.{shortCheck, proposalFault};
 
 // 10 and 11, for tables of these lengths.
 fn short_tables(counts: Counts, values: usize, levels: usize) -> Refusal
@@ -50,7 +38,7 @@ pub fn answer(counts: Counts, rows: &[u16], values: &[u8], fault: Refusal) -> Ch
     ensures { λ r. ⌜ r ≡ checked fault (caseIn counts (now (rows .entry))) (now (values .entry)) ⌝ }
 {
     if fault.number != 0 {
-        return refused(fault);
+        return Checked::refused(fault);
     }
     Checked {
         number: fault.number,
@@ -101,7 +89,7 @@ pub fn check(case: &[u8], values: &[u8], levels: &[u8]) -> Checked
     let short = short_tables(parsed.counts, values.len(), levels.len());
     let refusal = or_else(parsed.refusal, short);
     if refusal.number != 0 {
-        return refused(refusal);
+        return Checked::refused(refusal);
     }
     check_case(parsed.counts, &rows, values, levels)
 }

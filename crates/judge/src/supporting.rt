@@ -1,7 +1,6 @@
 // Checking under the old code, which takes a supported assignment without levels: refusals 1 to 10, 13 and 14 and reading's later ones, else
 // checking's counts; and in each case the byte 1. Nothing is written.
 use crate::checking::answer;
-use crate::checking::refused;
 use cases::answers::Refusal;
 use cases::counts::Counts;
 use checker::checking::check_support;
@@ -16,22 +15,9 @@ ghost use mathlib.Core.Path.{_≡_};
 ghost use Prim.Native.Nat.{_*_, _≤_};
 ghost use lib.ListN.{length};
 ghost use Rattle.cases.specs.Rows.{CaseIn, caseIn};
-ghost use Rattle.semantics.specs.OldCode.{withOldCode, oldAnswer};
+ghost use Rattle.semantics.specs.OldCode.{oldAnswer};
 ghost use Rattle.semantics.specs.Operations.{checked};
 ghost use Rattle.judge.specs.Supported.{supportedFault};
-
-// Checking's answer with the byte of the old code.
-fn with_old_code(checked: Checked) -> CheckedOld
-    ensures { λ r. ⌜ r ≡ withOldCode checked ⌝ }
-{
-    CheckedOld {
-        number: checked.number,
-        place: checked.place,
-        undetermined: checked.undetermined,
-        valid: checked.valid,
-        code: 1,
-    }
-}
 
 // The first fault of the values proposed for the case in the rows.
 fn find_fault(counts: Counts, rows: &[u16], values: &[u8]) -> Refusal
@@ -68,7 +54,7 @@ pub fn check_supported(case: &[u8], values: &[u8]) -> CheckedOld
     let short = too_short(10, counts.shapes * counts.nodes, values.len());
     let refusal = or_else(parsed.refusal, short);
     if refusal.number != 0 {
-        return with_old_code(refused(refusal));
+        return Checked::refused(refusal).under_old_code();
     }
-    with_old_code(check_values(counts, &rows, values))
+    check_values(counts, &rows, values).under_old_code()
 }

@@ -1,5 +1,10 @@
 // What solving, checking, checking under the old code, ranking and totals by fitting answer: number and place of the refusal, 0 for none,
 // then the counts, 0 on a refusal; the code of the old check is no count.
+use cases::answers::Refusal;
+ghost use mathlib.Core.Path.{_≡_};
+ghost use Rattle.semantics.specs.OldCode.{withOldCode};
+ghost use Rattle.semantics.specs.Refused.{refusedSolution, refusedChecked, refusedTotals, rankedBy};
+
 #[repr(C)]
 pub struct Solution {
     pub number: usize,
@@ -12,12 +17,55 @@ pub struct Solution {
     pub impossible: usize,
 }
 
+impl Solution {
+    pub fn refused(refusal: Refusal) -> Solution
+        ensures { λ r. ⌜ r ≡ refusedSolution refusal ⌝ }
+    {
+        Solution {
+            number: refusal.number,
+            place: refusal.place,
+            rounds: 0,
+            valid: 0,
+            undetermined: 0,
+            sure: 0,
+            open: 0,
+            impossible: 0,
+        }
+    }
+}
+
 #[repr(C)]
 pub struct Checked {
     pub number: usize,
     pub place: usize,
     pub undetermined: usize,
     pub valid: usize,
+}
+
+impl Checked {
+    pub fn refused(refusal: Refusal) -> Checked
+        ensures { λ r. ⌜ r ≡ refusedChecked refusal ⌝ }
+    {
+        Checked {
+            number: refusal.number,
+            place: refusal.place,
+            undetermined: 0,
+            valid: 0,
+        }
+    }
+
+    // Under the old code: the same, and the byte 1.
+    pub fn under_old_code(self) -> CheckedOld
+        ensures { λ r. ⌜ r ≡ withOldCode self ⌝ }
+    {
+        CheckedOld {
+            number: self.number,
+            place: self.place,
+            undetermined: self.undetermined,
+            valid: self.valid,
+            code: 1,
+        }
+    }
 }
 
 #[repr(C)]
@@ -36,10 +84,36 @@ pub struct Ranked {
     pub strata: usize,
 }
 
+impl Ranked {
+    // The answer that goes with a refusal, or with none.
+    pub fn by(refusal: Refusal, strata: usize) -> Ranked
+        ensures { λ r. ⌜ r ≡ rankedBy refusal strata ⌝ }
+    {
+        Ranked {
+            number: refusal.number,
+            place: refusal.place,
+            strata,
+        }
+    }
+}
+
 #[repr(C)]
 pub struct Totals {
     pub number: usize,
     pub place: usize,
     pub valid: usize,
     pub undetermined: usize,
+}
+
+impl Totals {
+    pub fn refused(refusal: Refusal) -> Totals
+        ensures { λ r. ⌜ r ≡ refusedTotals refusal ⌝ }
+    {
+        Totals {
+            number: refusal.number,
+            place: refusal.place,
+            valid: 0,
+            undetermined: 0,
+        }
+    }
 }
