@@ -59,7 +59,7 @@ refused-empty s n = ap caseOf (refused-input s n) ∙ nothing .1
 
 module _ (c : Case) where
   T-grows : (i : ℕ) → roundT c i ⊆ roundT c (suc i)
-  T-grows i = lower-grows (pairCount c) (nextSet c) (rule-system c) i
+  T-grows i = lower-grows (pairCount c) (nextSet c) (rule-system c) i (suc i) (omega arith)
 
   P-shrinks : (i : ℕ) → lastP c (suc i) ⊆ lastP c i
   unfolding lastP upper
@@ -69,13 +69,13 @@ module _ (c : Case) where
             let size = closure-length (pairCount c) (nextSet c) (rule-system c) (roundT c 0) in
             has-collect (pairCount c) (λ k. true) k (omega (arith, has-below _ k h));
       }
-  P-shrinks (suc i) = upper-shrinks (pairCount c) (nextSet c) (rule-system c) i
+  P-shrinks (suc i) = upper-shrinks (pairCount c) (nextSet c) (rule-system c) i (suc i) (omega arith)
 
   T-inside-P : (i : ℕ) → roundT c i ⊆ lastP c i
   unfolding lastP lower
   T-inside-P zero = none-inside (pairCount c) _
   T-inside-P (suc i) =
-      inside-trans (lower-inside-upper (pairCount c) (nextSet c) (rule-system c) (suc i)) (upper-shrinks (pairCount c) (nextSet c) (rule-system c) i)
+      inside-trans (lower-inside-upper (pairCount c) (nextSet c) (rule-system c) (suc i)) (upper-shrinks (pairCount c) (nextSet c) (rule-system c) i (suc i) (omega arith))
 
   -- the end: T is the solved one, and so is the last P
   last-T : roundT c (rounds c) ≡ solvedT c
