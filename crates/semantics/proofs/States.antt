@@ -2,7 +2,7 @@
 use Prim.Native.Nat.{ℕ, _<_, _≤_}
 use mathlib.Core.Path.{_≡_}
 use borrow.Author.Tests.{ne-eqb, eq-eqb, lt-ltb, le-ltb}
-use Rattle.semantics.specs.Unfinished.{heldCase, afterRound, advanced, replyNumber, certainOf, asked}
+use Rattle.semantics.specs.Unfinished.{heldCase, afterRound, advanced, certainOf, replied, asked}
 use Rattle.semantics.specs.declared.ongoing.Unfinished.{Unfinished}
 
 pub before-end : (u : Unfinished) → u .over ≡ 0 → advanced u ≡ afterRound (heldCase u) u
@@ -19,6 +19,6 @@ pub asked-beyond : (u : Unfinished) (k : ℕ) → u .pairs ≤ k → asked u k �
 unfolding asked
 asked-beyond u k h = rw (le-ltb k (u .pairs) h)
 
-pub asked-within : (u : Unfinished) (k : ℕ) → k < u .pairs → asked u k ≡ record { number = 0; place = 0; reply = replyNumber (certainOf u k) }
+pub asked-within : (u : Unfinished) (k : ℕ) → k < u .pairs → asked u k ≡ replied (certainOf u k)
 unfolding asked
 asked-within u k h = rw (lt-ltb k (u .pairs) h)

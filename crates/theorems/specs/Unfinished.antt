@@ -1,15 +1,21 @@
--- A solve while it is unfinished: what it is after so many advances, the case that it holds, and the last P. Document 02, point 7. Assumes nothing.
+-- A solve while it is unfinished: what it is after so many advances, the case that it holds, the last P, and what is certain by then.
+-- Document 02, point 7. Assumes nothing.
 use Prim.Native.Nat.{ℕ, zero, suc}
-use mathlib.Core.Bool.{Bool, true}
+use mathlib.Core.Bool.{Bool, true, cond}
 use mathlib.Core.List.{List}
-use Rattle.fixpoint.specs.Sets.{collect}
+use lib.Dec.{leb}
+use Rattle.fixpoint.specs.Sets.{has, collect}
 use Rattle.fixpoint.specs.Stages.{upper}
 use Rattle.cases.specs.Case.{Case}
 use Rattle.semantics.specs.declared.ongoing.Unfinished.{Unfinished}
+use Rattle.semantics.specs.declared.ongoing.Certainty.{Certainty}
+use Rattle.semantics.specs.declared.ongoing.Certainty.the-variants.{Impossible, Open, Sure, NotYet}
 use Rattle.semantics.specs.Operations.{caseOf}
+use Rattle.semantics.specs.Solving.{rounds}
 use Rattle.semantics.specs.Stability.{nextSet}
 use Rattle.semantics.specs.Unfinished.{heldInput, begun, advanced}
 use Rattle.semantics.specs.Values.{pairCount}
+use Rattle.theorems.specs.Demands.{roundT}
 
 -- so many advances
 unfoldable pub after : ℕ → Unfinished → Unfinished
@@ -24,7 +30,12 @@ solving s i = after i (begun s .unfinished)
 unfoldable pub heldBy : List ℕ → Case
 heldBy s = caseOf (heldInput s)
 
--- "the last P worked out" after i rounds; before the first round no pair is outside it
+-- "the last P worked out" after i advances: before the first round no pair is outside it, and past the end it is the solved one
 unfoldable pub lastP : Case → ℕ → List Bool
 lastP c zero = collect (pairCount c) (λ k. true)
 lastP c (suc i) = upper (pairCount c) (nextSet c) i
+
+-- "After i rounds a pair in Ti is sure, a pair outside the last P worked out is impossible, and each other is "not yet" until the end, then
+-- open.": of pair k after i advances, which may be more than there are rounds
+abbrev pub certainAfter : Case → ℕ → ℕ → Certainty
+certainAfter c i k = cond (has (roundT c i) k) Sure (cond (has (lastP c i) k) (cond (leb (rounds c) i) Open NotYet) Impossible)
