@@ -3,12 +3,7 @@ pub mod Formats
 pub mod Profiles
 pub mod Steps
 pub mod Sound
-pub mod Recording
-pub mod Lengths
-pub mod RefusalNumbers
 pub mod InRows
 pub mod Expansion
 pub mod Opening
 pub mod Operands
-pub mod Encoding
-pub mod Alike

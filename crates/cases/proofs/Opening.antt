@@ -19,12 +19,12 @@ use Rattle.cases.specs.declared.format.Operands.the-variants.{Complete, 
 use Rattle.cases.specs.declared.heads.Head.{Head}
 use Rattle.cases.specs.declared.heads.Head.the-variants.{Refused, Name, Alone, One, Two, AtMost}
 use Rattle.cases.specs.Case.{pathsOfShape, references}
-use Rattle.cases.specs.Encoding.{shapeByte}
 use Rattle.cases.specs.Faults.{shapeNodesKnown, shapePathsEarlier, shapeLeastPositive}
 use Rattle.cases.specs.Format.{widthBy, rowBy, numberAt, operandsBy, shapeRuleOf}
 use Rattle.cases.specs.Parts.{partFormatOf, openUnless, opening, ruleHead, atMostHead, wholeHead, headBy, headAt}
 use Rattle.cases.specs.Parts.{Part, PartRead, PartFault, PartIs, andThen, opened, partAt, filled}
 use Rattle.cases.specs.Reading.{isReadingNumber}
+use Rattle.cases.specs.Sound.{shapeByte}
 use Rattle.cases.proofs.Expansion.{ruled, Blind}
 
 -- 5, 6 and 7 of a rule, which do not ask for its shape operands

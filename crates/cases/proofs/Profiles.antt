@@ -6,7 +6,7 @@ use borrow.Author.Tests.{leb-true, leb-false}
 use Rattle.fixpoint.proofs.Lists.{by-test}
 use mathlib.Core.Path.{_≡_}
 use Rattle.cases.specs.declared.counts.Counts.{Counts}
-use Rattle.cases.specs.Counts.{nodeLimit, shapeLimit, wordsOf}
+use Rattle.cases.specs.Counts.{nodeLimit, shapeLimit, wordsOf, WordsFit}
 
 -- a fact about the limits, by the three profiles
 pub by-profile : (Q : ℕ → ℕ → Type 0) → Q 128 32 → Q 256 16 → Q 512 8 → (profile : ℕ) → Q (nodeLimit profile) (shapeLimit profile)
@@ -25,12 +25,6 @@ nodes-at-most = by-profile (λ n s. n ≤ 512) (omega arith) (omega arith) (omeg
 -- pairs are 4,096 at most
 pub limit-product : (profile : ℕ) → shapeLimit profile * nodeLimit profile ≤ 4096
 limit-product = by-profile (λ n s. s * n ≤ 4096) (omega arith) (omega arith) (omega arith)
-
--- what a set of nodes takes: it has a bit for each node, and the sets of all shapes take 64 words at most
-pub record WordsFit (counts : Counts) : Type 0 where
-  pub wide : counts .nodes ≤ 64 * wordsOf counts
-  pub narrow : wordsOf counts ≤ 8
-  pub pairs-fit : counts .shapes * wordsOf counts ≤ 64
 
 words-by : (counts : Counts) → counts .nodes ≤ 512 → counts .shapes ≤ 32 → (128 < counts .nodes → counts .shapes ≤ 16) → (256 < counts .nodes → counts .shapes ≤ 8)
     → WordsFit counts

@@ -32,6 +32,12 @@ wordsOf counts = cond (leb (counts .nodes) 128) 2 (cond (leb (counts .nodes) 256
 abbrev pub sizeOf : Counts → Size
 sizeOf counts = record { nodes = counts .nodes; words = wordsOf counts }
 
+-- what a set of nodes takes: it has a bit for each node, and the sets of all shapes take 64 words at most
+pub record WordsFit (counts : Counts) : Type 0 where
+  pub wide : counts .nodes ≤ 64 * wordsOf counts
+  pub narrow : wordsOf counts ≤ 8
+  pub pairs-fit : counts .shapes * wordsOf counts ≤ 64
+
 -- what the tables of a case with these counts rely on: a set of nodes fits its words, a set of pairs 64 words, and the rows their table
 pub record Fit (counts : Counts) : Type 0 where
   pub wide : counts .nodes ≤ 64 * wordsOf counts

@@ -7,5 +7,4 @@ pub mod Faults
 pub mod Parts
 pub mod Reading
 pub mod Sound
-pub mod Encoding
 pub mod Rows

@@ -1,5 +1,5 @@
--- What holds of every case that reading gives: operands name what is there, and the limits are kept. Document 01's refusals 4 to 7 and 9
--- and document 02's 19, 20 and 22, read as facts about the case. Assumes nothing.
+-- What holds of every case that reading gives: operands name what is there, the limits are kept, and of bytes operands fit their bytes.
+-- Document 01's refusals 4 to 7 and 9 and document 02's 19, 20 and 22, read as facts about the case. Assumes nothing.
 use Prim.Native.Nat.{ℕ, _≤_, _<_}
 use mathlib.Core.Path.{_≡_}
 use mathlib.Core.Bool.{Bool, true, _&&_, _||_}
@@ -10,6 +10,10 @@ use Rattle.fixpoint.specs.Lists.{all}
 use Rattle.cases.specs.Case.{Case, references, pathRule}
 use Rattle.cases.specs.Counts.{isProfile, nodeLimit, edgeLimit, pathLimit, shapeLimit, targetLimit}
 use Rattle.cases.specs.declared.command.Edge.{Edge}
+use Rattle.cases.specs.declared.command.PathRule.{PathRule}
+use Rattle.cases.specs.declared.command.PathRule.the-variants.{Forward, Backward, Union, Sequence, Star}
+use Rattle.cases.specs.declared.command.ShapeRule.{ShapeRule}
+use Rattle.cases.specs.declared.command.ShapeRule.the-variants.{Top, Node, And, Or, Not, Same, All, AtLeast}
 use Rattle.cases.specs.Faults.{laid, shapeNodesKnown, pathPathsEarlier, shapePathsEarlier, shapeLeastPositive}
 
 -- operands name what is there
@@ -43,3 +47,26 @@ recorded before (e ∷ l) = (eqb (e .code) 0x02 || (eqb (e .code) 0x03 && laid b
 
 pub record Recorded (c : Case) : Type 0 where
   pub edges-recorded : recorded [] (c .edges) ≡ true
+
+-- properties and least numbers are one byte each; the other operands of a sound case fit their bytes if it keeps the limits
+abbrev pub pathByte : PathRule → Bool
+pathByte (Forward p) = ltb (p .0) 256
+pathByte (Backward p) = ltb (p .0) 256
+pathByte (Union p q) = true
+pathByte (Sequence p q) = true
+pathByte (Star p) = true
+
+abbrev pub shapeByte : ShapeRule → Bool
+shapeByte Top = true
+shapeByte (Node a) = true
+shapeByte (And s t) = true
+shapeByte (Or s t) = true
+shapeByte (Not s) = true
+shapeByte (Same p q) = true
+shapeByte (All p s) = true
+shapeByte (AtLeast n p s) = ltb n 256
+
+pub record OneByteEach (c : Case) : Type 0 where
+  pub edges : all (c .edges) (λ e. ltb (e .property .0) 256) ≡ true
+  pub paths : all (c .paths) pathByte ≡ true
+  pub shapes : all (c .shapes) shapeByte ≡ true

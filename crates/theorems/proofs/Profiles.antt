@@ -8,7 +8,8 @@ use lib.Dec.{eqb}
 use Rattle.fixpoint.proofs.Lists.{by-test}
 use Rattle.cases.specs.Case.{Case}
 use Rattle.cases.specs.Reading.{headed, Outcome, outcome, reading}
-use Rattle.cases.proofs.Alike.{later, without-profile}
+use Rattle.encoding.specs.Encoding.{later}
+use Rattle.encoding.proofs.Alike.{without-profile}
 use Rattle.semantics.specs.OldCode.{oldRefusal, oldAnswer}
 use Rattle.semantics.specs.Operations.{caseOf, solveRefusal, solveAnswer, solveValues, solveLevels, solveVerdicts, checkRefusal, checkAnswer, rankRefusal, rankAnswer, rankStrata}
 use Rattle.semantics.specs.Totals.{totalsRefusal, totalsAnswer}

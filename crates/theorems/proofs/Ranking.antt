@@ -12,7 +12,7 @@ use Rattle.fixpoint.specs.Lists.{upTo}
 use Rattle.fixpoint.proofs.Lists.{length-made, getD-made}
 use Rattle.cases.specs.Case.{Case}
 use Rattle.cases.specs.Reading.{outcome, isReadingNumber}
-use Rattle.cases.proofs.RefusalNumbers.{reading-number}
+use Rattle.encoding.proofs.RefusalNumbers.{reading-number}
 use Rattle.cases.specs.declared.answers.Refusal.{Refusal}
 use Rattle.semantics.specs.Denial.{OwnDenial, Undenied, ownDenial, MostNots, stratum, strata}
 use Rattle.semantics.specs.Operations.{firstOf, refuseUnless, tooShort, caseOf, rankRefusal, rankAnswer, rankStrata, ranked, rankFault, denialFault}

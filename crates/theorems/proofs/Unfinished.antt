@@ -17,7 +17,7 @@ use Rattle.fixpoint.proofs.Sets.{has-none, has-collect, has-below, none-inside,
 use Rattle.fixpoint.proofs.Alternating.{closure-length, lower-grows, upper-shrinks, lower-inside-upper, lower-after-rest, upper-after-rest}
 use Rattle.cases.specs.Case.{Case, emptyCase}
 use Rattle.cases.specs.Reading.{outcome}
-use Rattle.cases.proofs.Lengths.{outcome-length}
+use Rattle.encoding.proofs.Lengths.{outcome-length}
 use Rattle.semantics.specs.declared.ongoing.Unfinished.{Unfinished}
 use Rattle.semantics.specs.declared.ongoing.Reply.{Reply}
 use Rattle.semantics.specs.declared.ongoing.Certainty.{Certainty}

@@ -12,7 +12,7 @@ use Rattle.fixpoint.proofs.Lists.{lt-cases, length-made, getD-made}
 use Rattle.cases.specs.Case.{emptyCase, countsOf}
 use Rattle.cases.specs.Reading.{outcome, reading}
 use Rattle.cases.specs.declared.answers.Reading.{Reading}
-use Rattle.cases.proofs.Lengths.{outcome-length}
+use Rattle.encoding.proofs.Lengths.{outcome-length}
 use Rattle.cases.proofs.Sound.{outcome-limited}
 use Rattle.semantics.specs.Operations.{caseOf}
 use Rattle.semantics.specs.Unfinished.{copied, opened, opening, heldInput, begun}

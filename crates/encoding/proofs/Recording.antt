@@ -5,15 +5,15 @@ use mathlib.Core.Bool.{Bool, true, not, _&&_, _||_, false≢true, and-eq-true-if
 use mathlib.Core.List.{List, [], _∷_, _++_, append-assoc, append-nil}
 use lib.Dec.{eqb}
 use Rattle.fixpoint.proofs.Lists.{by-test}
 use Rattle.cases.specs.declared.command.Command.{Command}
 use Rattle.cases.specs.declared.command.Command.the-variants.{Nodes, End}
 use Rattle.cases.specs.declared.command.Command.the-variants.{Edge as EdgeCommand, Path as PathCommand, Shape as ShapeCommand, Target as TargetCommand}
 use Rattle.cases.specs.declared.command.Edge.{Edge}
-use Rattle.cases.specs.Case.{emptyCase}
+use Rattle.cases.specs.Case.{Case, emptyCase}
 use Rattle.cases.specs.Faults.{laid, edgeThere}
 use Rattle.cases.specs.Reading.{Progress, start, add, Entry, Shape, Other, pass, afterEnd, refused, finish, walked, expanded, profileOf, outcome}
 use Rattle.cases.specs.Sound.{recorded, Recorded}
 use Rattle.cases.proofs.Steps.{edgeCoded, EntryShows, Admitted, walked-keeps}
 
 -- an edge behind others is an 02, or a 03 of one of them
 unfoldable pub recordedAt : List Edge → Edge → Bool
@@ -31,12 +31,15 @@ recorded-snoc before (d ∷ l) e h k =
     let there : recordedAt ((before ++ (d ∷ [])) ++ l) e ≡ true = rw (append-assoc before (d ∷ []) l) k in
     rw (both .0) (recorded-snoc (before ++ (d ∷ [])) l e (both .1) there)
 
-pub recorded-in : (before prior : List Edge) (e : Edge) (later : List Edge) → recorded before (prior ++ (e ∷ later)) ≡ true → recordedAt (before ++ prior) e ≡ true
+recorded-from : (before prior : List Edge) (e : Edge) (later : List Edge) → recorded before (prior ++ (e ∷ later)) ≡ true → recordedAt (before ++ prior) e ≡ true
 unfolding recorded recordedAt
-recorded-in before [] e later h = rw (append-nil before) (and-eq-true-iff (recordedAt before e) (recorded (before ++ (e ∷ [])) later) .0 h .0)
-recorded-in before (d ∷ prior) e later h =
+recorded-from before [] e later h = rw (append-nil before) (and-eq-true-iff (recordedAt before e) (recorded (before ++ (e ∷ [])) later) .0 h .0)
+recorded-from before (d ∷ prior) e later h =
     let rest = and-eq-true-iff (recordedAt before d) (recorded (before ++ (d ∷ [])) (prior ++ (e ∷ later))) .0 h .1 in
-    rw (append-assoc before (d ∷ []) prior) at (recorded-in (before ++ (d ∷ [])) prior e later rest)
+    rw (append-assoc before (d ∷ []) prior) at (recorded-from (before ++ (d ∷ [])) prior e later rest)
+
+pub recorded-in : (c : Case) → Recorded c → (prior : List Edge) (e : Edge) (later : List Edge) → prior ++ (e ∷ later) ≡ c .edges → recordedAt prior e ≡ true
+recorded-in c r prior e later is = recorded-from [] prior e later (rw is (r .edges-recorded))
 
 -- ---- The walk
 

@@ -10,20 +10,15 @@ use lib.Seq.{drop-drop}
 use lib.Dec.{eqb, ltb}
 use borrow.Author.Tests.{lt-ltb, le-ltb, ltb-true, ltb-false, ne-eqb, eq-eqb}
 use Rattle.fixpoint.proofs.Lists.{by-test}
 use Rattle.cases.specs.declared.answers.Refusal.{Refusal}
 use Rattle.cases.specs.Case.{Case}
-use Rattle.cases.specs.Encoding.{encodeCase, encode, OneByteEach}
 use Rattle.cases.specs.Parts.{names}
 use Rattle.cases.specs.Reading.{headed, headingOf, noRefusal, countsSoFar, shapesNamed, Note, Progress, start, Entry, Shape, Other, pass, namedAt, Found, Fault, Good, stepAt, plainFound, nestedFound, roomy, roomyFound, laidFound, foundAt}
 use Rattle.cases.specs.Reading.{unknownShape, afterEnd, Walked, refused, finish, isEndEntry, stepped, walk, walkedFrom, walked, expanded, Outcome, outcome}
-use Rattle.cases.specs.Sound.{Sound, Limited, Recorded}
-use Rattle.cases.proofs.Encoding.{heading-is, read-back}
-use Rattle.cases.proofs.Lengths.{FoundTakes, found-takes}
 use Rattle.cases.proofs.Steps.{GoodShows, found-shows}
-
--- a refusal behind two bytes more
-unfoldable pub later : Refusal → Refusal
-later r = record { number = r .number; place = cond (eqb (r .number) 0) (r .place) (2 + r .place) }
+use Rattle.encoding.specs.Encoding.{encodeCase, encode, later, Writable}
+use Rattle.encoding.proofs.Encoding.{heading-is, read-back}
+use Rattle.encoding.proofs.Lengths.{FoundTakes, found-takes}
 
 -- what has been read, with its shape operands two bytes further on
 unfoldable moved : Progress → Progress
@@ -133,10 +128,10 @@ unmoved r e =
     let place : r .place ≡ 0 = rw (eq-eqb (r .number) 0 number) at (ap (λ (q : Refusal). q .place) e) in
     ap₂ (λ (n p : ℕ). record { number = n; place = p }) number place
 
-pub read-back-plain : (c : Case) → Sound c → Limited 0 c → OneByteEach c → Recorded c → _≡_ {A = Outcome} (outcome (encodeCase c)) (record { refusal = noRefusal; case = c })
+pub read-back-plain : (c : Case) → Writable 0 c → _≡_ {A = Outcome} (outcome (encodeCase c)) (record { refusal = noRefusal; case = c })
 unfolding encode
-read-back-plain c k m o q =
-    let e = sym (without-profile (encodeCase c) (encoding-unheaded c)) ∙ read-back 0 c k m o q in
+read-back-plain c w =
+    let e = sym (without-profile (encodeCase c) (encoding-unheaded c)) ∙ read-back 0 c w in
     let none = unmoved (outcome (encodeCase c) .refusal) (ap (λ (x : Outcome). x .refusal) e) in
     let same : outcome (encodeCase c) .case ≡ c = ap (λ (x : Outcome). x .case) e in
     ap₂ (λ (r : Refusal) (x : Case). record { refusal = r; case = x }) none same

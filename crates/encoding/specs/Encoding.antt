@@ -1,19 +1,21 @@
 -- A case written as bytes, under a profile, so that reading gives it back. Document 01, "A case, command by command"; document 02, point 8.
 -- Assumes nothing.
-use Prim.Native.Nat.{ℕ, _/_, _%_}
+use Prim.Native.Nat.{ℕ, _+_, _/_, _%_}
 use mathlib.Core.Path.{_≡_}
-use mathlib.Core.Bool.{Bool, true}
+use mathlib.Core.Bool.{true, cond}
 use mathlib.Core.List.{List, [], _∷_}
-use lib.Dec.{ltb}
+use lib.Dec.{eqb, ltb}
 use Rattle.fixpoint.specs.Lists.{all}
+use Rattle.cases.specs.declared.answers.Refusal.{Refusal}
 use Rattle.cases.specs.declared.command.Edge.{Edge}
 use Rattle.cases.specs.declared.command.PathRule.{PathRule}
 use Rattle.cases.specs.declared.command.PathRule.the-variants.{Forward, Backward, Union, Sequence, Star}
 use Rattle.cases.specs.declared.command.ShapeRule.{ShapeRule}
 use Rattle.cases.specs.declared.command.ShapeRule.the-variants.{Top, Node, And, Or, Not, Same, All, AtLeast}
 use Rattle.cases.specs.declared.command.Target.{Target}
 use Rattle.cases.specs.Case.{Case}
 use Rattle.cases.specs.Reading.{Outcome, noRefusal, profileOf, outcome}
+use Rattle.cases.specs.Sound.{Sound, Limited, OneByteEach, Recorded}
 
 -- a u16: two bytes, low byte first
 abbrev pub twoBytes : ℕ → List ℕ → List ℕ
@@ -63,28 +65,16 @@ encodeCase c =
 unfoldable pub encode : ℕ → Case → List ℕ
 encode profile c = 0x00 ∷ profile ∷ encodeCase c
 
--- properties and least numbers are one byte each; the other operands of a sound case fit their bytes if it keeps the limits
-abbrev pub pathByte : PathRule → Bool
-pathByte (Forward p) = ltb (p .0) 256
-pathByte (Backward p) = ltb (p .0) 256
-pathByte (Union p q) = true
-pathByte (Sequence p q) = true
-pathByte (Star p) = true
+-- a refusal behind two bytes more
+unfoldable pub later : Refusal → Refusal
+later r = record { number = r .number; place = cond (eqb (r .number) 0) (r .place) (2 + r .place) }
 
-abbrev pub shapeByte : ShapeRule → Bool
-shapeByte Top = true
-shapeByte (Node a) = true
-shapeByte (And s t) = true
-shapeByte (Or s t) = true
-shapeByte (Not s) = true
-shapeByte (Same p q) = true
-shapeByte (All p s) = true
-shapeByte (AtLeast n p s) = ltb n 256
-
-pub record OneByteEach (c : Case) : Type 0 where
-  pub edges : all (c .edges) (λ e. ltb (e .property .0) 256) ≡ true
-  pub paths : all (c .paths) pathByte ≡ true
-  pub shapes : all (c .shapes) shapeByte ≡ true
+-- the cases that can be written so, under a profile
+pub record Writable (profile : ℕ) (c : Case) : Type 0 where
+  pub sound : Sound c
+  pub limited : Limited profile c
+  pub one-byte : OneByteEach c
+  pub recorded : Recorded c
 
 -- some bytes read as the case, under the profile
 pub record Readable (profile : ℕ) (c : Case) : Type 0 where

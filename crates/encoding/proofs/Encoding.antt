@@ -12,37 +12,37 @@ use lib.Dec.{eqb, ltb}
 use borrow.Author.Tests.{lt-ltb, le-ltb, le-leb, leb-true, ne-eqb, eqb-true}
 use Rattle.fixpoint.specs.Lists.{all}
 use Rattle.fixpoint.proofs.Lists.{tests, bool-cases, by-test, or-cases, or-left, or-right, all-in, all-append, all-map, all-mono}
 use Rattle.cases.specs.declared.command.Edge.{Edge}
 use Rattle.cases.specs.declared.command.Target.{Target}
 use Rattle.cases.specs.declared.command.Row.{Row}
 use Rattle.cases.specs.declared.command.Command.{Command}
 use Rattle.cases.specs.declared.command.Command.the-variants.{Nodes, End}
 use Rattle.cases.specs.declared.command.Command.the-variants.{Edge as EdgeCommand, Path as PathCommand, Shape as ShapeCommand, Target as TargetCommand}
 use Rattle.cases.specs.declared.command.PathRule.{PathRule}
 use Rattle.cases.specs.declared.command.PathRule.the-variants.{Forward, Backward, Union, Sequence, Star}
 use Rattle.cases.specs.declared.command.ShapeRule.{ShapeRule}
 use Rattle.cases.specs.declared.command.ShapeRule.the-variants.{Top, Node, And, Or, Not, Same, All, AtLeast}
 use Rattle.cases.specs.declared.numbers.Node.{Node as NodeNumber}
 use Rattle.cases.specs.declared.numbers.Property.{Property}
 use Rattle.cases.specs.declared.answers.Heading.the-variants.{Is as HeadingIs}
 use Rattle.cases.specs.declared.answers.Step.the-variants.{Is}
 use Rattle.cases.specs.declared.answers.Taken.{Taken}
 use Rattle.cases.specs.Case.{Case, emptyCase, countsOf, pathRule, pathsOfPath, pathsOfShape, references}
 use Rattle.cases.specs.Counts.{isProfile, nodeLimit, shapeLimit}
 use Rattle.cases.specs.Format.{formatOf, groupOf, widthOf, takenOf, numberAt, rowOf, complete, operandsBy, pathRuleOf, shapeRuleOf, commandOf, commandAt}
 use Rattle.cases.specs.Faults.{inOrder, withinLimit, laid, edgeThere, shapeNodesKnown, pathPathsEarlier, shapePathsEarlier, shapeLeastPositive}
 use Rattle.cases.specs.Parts.{Plain, names}
 use Rattle.cases.specs.Reading.{headingOf, headingProfile, judged, stepAt, noRefusal, Note, Progress, start, countsSoFar, add, shapesNamed, namedAt, Entry, Shape, Other, pass}
 use Rattle.cases.specs.Reading.{Found, Good, entryOf, roomFor, roomyFound, parkable, foundAt, unknownShape, afterEnd, Walked, refused, finish, isEnd, isEndEntry, stepped, walk, walkedFrom, walked, profileOf}
 use Rattle.cases.specs.Reading.{Outcome, expanded, outcome}
-use Rattle.cases.specs.Sound.{Sound, Limited, Recorded}
-use Rattle.cases.specs.Encoding.{twoBytes, encodeEdge, encodePath, encodeShape, encodeTarget, encodeAll, encodeCase, encode, pathByte, shapeByte, OneByteEach, Readable}
+use Rattle.cases.specs.Sound.{pathByte, shapeByte, OneByteEach}
 use Rattle.cases.proofs.Expansion.{ruled, expansion-passes, plain-length, plain-expansion}
 use Rattle.cases.proofs.Opening.{byte-blind}
 use Rattle.cases.proofs.Profiles.{shapes-at-most, nodes-at-most}
 use Rattle.cases.proofs.Steps.{oneByte, EntryShows, walked-keeps}
 use Rattle.cases.proofs.Sound.{profile-pass, outcome-sound, outcome-limited}
-use Rattle.cases.proofs.Recording.{recordedAt, recorded-in, outcome-recorded}
+use Rattle.encoding.specs.Encoding.{twoBytes, encodeEdge, encodePath, encodeShape, encodeTarget, encodeAll, encodeCase, encode, Writable, Readable}
+use Rattle.encoding.proofs.Recording.{recordedAt, recorded-in, outcome-recorded}
 
 -- ---- Lists of bytes: a number below 65,536 is two, and each number below 256 is one
 
@@ -419,7 +419,7 @@ edge-there before e h =
     (λ x. or-right (not parks) (laid before e) (and-eq-true-iff parks (laid before e) .0 x .1))
     (or-cases (eqb (e .code) 0x02) (parks && laid before e) h)
 
-module _ (profile : ℕ) (c : Case) (k : Sound c) (m : Limited profile c) (o : OneByteEach c) (q : Recorded c) where
+module _ (profile : ℕ) (c : Case) (w : Writable profile c) where
   edge-kind : Kind (boundsOf profile c) 2 encodeEdge EdgeCommand (λ l. caseWith (c .nodes) l [] [] []) (c .edges)
   unfolding add countsOf judged shapesNamed all
   edge-kind = record {
@@ -427,15 +427,15 @@ module _ (profile : ℕ) (c : Case) (k : Sound c) (m : Limited profile c) (o : O
     goes-on = λ e. refl;
     puts = λ prior e. refl;
     fits = λ prior e i.
-        let ends = in-passes i (λ e. ltb (e .subject .0) (c .nodes) && ltb (e .object .0) (c .nodes)) (k .edges-known) in
-        let known : recordedAt prior e ≡ true = recorded-in [] prior e (i .later) (rw (i .is) (q .edges-recorded)) in
+        let ends = in-passes i (λ e. ltb (e .subject .0) (c .nodes) && ltb (e .object .0) (c .nodes)) (w .sound .edges-known) in
+        let known : recordedAt prior e ≡ true = recorded-in c (w .recorded) prior e (i .later) (i .is) in
         let code = edge-code prior e known in
         record {
           known = omega arith;
           is = λ l. found-edge l e code;
-          bytes = λ l. bytes-edge (c .nodes) e (omega (arith, nodes-at-most profile)) (⊎-elim (λ x. omega arith) (λ x. omega arith) code) (in-passes i (λ e. ltb (e .property .0) 256) (o .edges)) ends;
-          within = in-limit i (m .edges-limited);
-          passes = λ row taken. rw (in-limit i (m .edges-limited), ends);
+          bytes = λ l. bytes-edge (c .nodes) e (omega (arith, nodes-at-most profile)) (⊎-elim (λ x. omega arith) (λ x. omega arith) code) (in-passes i (λ e. ltb (e .property .0) 256) (w .one-byte .edges)) ends;
+          within = in-limit i (w .limited .edges-limited);
+          passes = λ row taken. rw (in-limit i (w .limited .edges-limited), ends);
           there = edge-there prior e known;
           named = refl;
         };
@@ -449,13 +449,13 @@ module _ (profile : ℕ) (c : Case) (k : Sound c) (m : Limited profile c) (o : O
     puts = λ prior r. refl;
     fits = λ prior r i.
         let n = length prior in
-        let earlier : pathPathsEarlier n r ≡ true = rw (in-at i (Union (record { 0 = n }) (record { 0 = n }))) at (k .paths-earlier n (in-room i)) in
+        let earlier : pathPathsEarlier n r ≡ true = rw (in-at i (Union (record { 0 = n }) (record { 0 = n }))) at (w .sound .paths-earlier n (in-room i)) in
         record {
           known = omega arith;
           is = λ l. found-path l r;
-          bytes = λ l b. bytes-path r l (in-passes i pathByte (o .paths)) (bytes-below n (pathsOfPath r) (omega (arith, in-room i)) earlier b);
-          within = in-limit i (m .paths-limited);
-          passes = λ row taken. rw (in-limit i (m .paths-limited), earlier);
+          bytes = λ l b. bytes-path r l (in-passes i pathByte (w .one-byte .paths)) (bytes-below n (pathsOfPath r) (omega (arith, in-room i)) earlier b);
+          within = in-limit i (w .limited .paths-limited);
+          passes = λ row taken. rw (in-limit i (w .limited .paths-limited), earlier);
           there = refl;
           named = refl;
         };
@@ -468,19 +468,19 @@ module _ (profile : ℕ) (c : Case) (k : Sound c) (m : Limited profile c) (o : O
     goes-on = λ r. refl;
     puts = λ prior r. refl;
     fits = λ prior r i.
-        let nodes = in-passes i (shapeNodesKnown (c .nodes)) (k .shapes-known) in
-        let paths = in-passes i (shapePathsEarlier (length (c .paths))) (k .shapes-paths) in
-        let named = in-passes i (λ r. all (references r) (λ s. ltb s (length (c .shapes)))) (k .shapes-named) in
+        let nodes = in-passes i (shapeNodesKnown (c .nodes)) (w .sound .shapes-known) in
+        let paths = in-passes i (shapePathsEarlier (length (c .paths))) (w .sound .shapes-paths) in
+        let named = in-passes i (λ r. all (references r) (λ s. ltb s (length (c .shapes)))) (w .sound .shapes-named) in
         record {
           known = omega arith;
           is = λ l. found-shape l r;
           bytes =
               λ l b.
-              bytes-shape (c .nodes) r l (omega (arith, nodes-at-most profile)) (in-passes i shapeByte (o .shapes)) nodes
+              bytes-shape (c .nodes) r l (omega (arith, nodes-at-most profile)) (in-passes i shapeByte (w .one-byte .shapes)) nodes
               (bytes-below (length (c .paths)) (pathsOfShape r) (omega arith) paths
               (bytes-below (length (c .shapes)) (references r) (omega (arith, shapes-at-most profile)) named b));
-          within = in-limit i (m .shapes-limited);
-          passes = λ row taken. rw (in-limit i (m .shapes-limited), nodes, paths, in-passes i shapeLeastPositive (k .least-positive));
+          within = in-limit i (w .limited .shapes-limited);
+          passes = λ row taken. rw (in-limit i (w .limited .shapes-limited), nodes, paths, in-passes i shapeLeastPositive (w .sound .least-positive));
           there = refl;
           named = named;
         };
@@ -493,14 +493,14 @@ module _ (profile : ℕ) (c : Case) (k : Sound c) (m : Limited profile c) (o : O
     goes-on = λ t. refl;
     puts = λ prior t. refl;
     fits = λ prior t i.
-        let node = in-passes i (λ t. ltb (t .node .0) (c .nodes)) (k .targets-known) in
-        let shape = in-passes i (λ t. ltb (t .shape .0) (length (c .shapes))) (k .targets-named) in
+        let node = in-passes i (λ t. ltb (t .node .0) (c .nodes)) (w .sound .targets-known) in
+        let shape = in-passes i (λ t. ltb (t .shape .0) (length (c .shapes))) (w .sound .targets-named) in
         record {
           known = omega arith;
           is = λ l. found-target l t;
           bytes = λ l. bytes-target t (omega (arith, tests, shapes-at-most profile)) (omega (arith, tests, nodes-at-most profile));
-          within = in-limit i (m .targets-limited);
-          passes = λ row taken. rw (in-limit i (m .targets-limited), node);
+          within = in-limit i (w .limited .targets-limited);
+          passes = λ row taken. rw (in-limit i (w .limited .targets-limited), node);
           there = refl;
           named = rw shape;
         };
@@ -512,8 +512,8 @@ module _ (profile : ℕ) (c : Case) (k : Sound c) (m : Limited profile c) (o : O
     known = omega arith;
     is = λ l. found-nodes l (c .nodes);
     bytes = λ l b. bytes-more (omega arith) (bytes-two (omega (arith, nodes-at-most profile)) b);
-    within = le-leb (c .nodes) (nodeLimit profile) (m .nodes-limited);
-    passes = λ row taken. rw (le-leb (c .nodes) (nodeLimit profile) (m .nodes-limited));
+    within = le-leb (c .nodes) (nodeLimit profile) (w .limited .nodes-limited);
+    passes = λ row taken. rw (le-leb (c .nodes) (nodeLimit profile) (w .limited .nodes-limited));
     there = refl;
     named = refl;
   }
@@ -539,14 +539,14 @@ heading-is profile l h =
     let s : List ℕ = 0x00 ∷ profile ∷ l in
     rw (lt-ltb 0 (length s) (omega arith), le-leb 2 (length s) (omega arith), h)
 
-module _ (profile : ℕ) (c : Case) (k : Sound c) (m : Limited profile c) (o : OneByteEach c) (q : Recorded c) where
+module _ (profile : ℕ) (c : Case) (w : Writable profile c) where
   encoding-read : ReadAs (walked (encode profile c)) c
   unfolding walked walkedFrom encode start emptyCase all
   encoding-read =
       let s = encode profile c in
       let begun : Stands (boundsOf profile c) emptyCase (encodeCase c) (suc (length s)) s 2 (start profile) =
       record { left = refl; fuelled = omega arith; under = refl; holds = record { case-is = refl; written-is = refl }; known = refl } in
-      rw (heading-is profile (encodeCase c) (m .known)) (encode-reads profile c k m o q .gives begun refl)
+      rw (heading-is profile (encodeCase c) (w .limited .known)) (encode-reads profile c w .gives begun refl)
 
   pub read-back : _≡_ {A = Outcome} (outcome (encode profile c)) (record { refusal = noRefusal; case = c })
   unfolding outcome
@@ -555,7 +555,7 @@ module _ (profile : ℕ) (c : Case) (k : Sound c) (m : Limited profile c) (o : O
   encoding-bytes : all (encode profile c) (λ b. ltb b 256) ≡ true
   unfolding encode
   encoding-bytes =
-      let behind : Bytes (profile ∷ encodeCase c) = bytes-more (omega (arith, leb-true profile 2 (m .known))) (encode-reads profile c k m o q .are-bytes) in
+      let behind : Bytes (profile ∷ encodeCase c) = bytes-more (omega (arith, leb-true profile 2 (w .limited .known))) (encode-reads profile c w .are-bytes) in
       let whole : Bytes (0x00 ∷ profile ∷ encodeCase c) = bytes-more (omega arith) behind in
       whole .each
 
@@ -603,18 +603,19 @@ outcome-one-byte s h =
     (λ at p e taken k room o. entry-byte p (drop at s) at (taken .group) e (all-drop s at (λ b. ltb b 256) h) (k .entry) o)
     (λ h. start-bytes (profileOf s))
 
--- ---- The sound cases that keep the limits and can be written in bytes are exactly those that reading gives
-pub sound-exactly : (profile : ℕ) (c : Case) → (Sound c × Limited profile c × OneByteEach c × Recorded c) ↔ Readable profile c
+-- ---- The cases that can be written in bytes are exactly those that reading gives
+pub sound-exactly : (profile : ℕ) (c : Case) → Writable profile c ↔ Readable profile c
 unfolding profileOf encode
 sound-exactly profile c = (
-  λ h. record {
+  λ w. record {
     bytes = encode profile c;
-    are-bytes = encoding-bytes profile c (h .0) (h .1) (h .2) (h .3);
-    under = ap headingProfile (heading-is profile (encodeCase c) (h .1 .known));
-    reads = read-back profile c (h .0) (h .1) (h .2) (h .3);
+    are-bytes = encoding-bytes profile c w;
+    under = ap headingProfile (heading-is profile (encodeCase c) (w .limited .known));
+    reads = read-back profile c w;
   },
   λ r.
       let s = r .bytes in
       let is : outcome s .case ≡ c = ap (λ o. o .case) (r .reads) in
-      rw (← is, ← r .under) (outcome-sound s, outcome-limited s, outcome-one-byte s (r .are-bytes), outcome-recorded s),
+      rw (← is, ← r .under)
+      (record { sound = outcome-sound s; limited = outcome-limited s; one-byte = outcome-one-byte s (r .are-bytes); recorded = outcome-recorded s }),
 )
