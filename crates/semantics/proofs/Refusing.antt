@@ -2,7 +2,7 @@
 use Prim.Native.Nat.{ℕ, zero, suc, _+_, _*_, _/_, _%_, _≤_, _<_}
 use native.Mathlib.Nat.{zero-add}
 use native.Mathlib.Omega.{arith}
-use mathlib.Core.Path.{_≡_, refl, sym, ap, ap₂, _∙_}
+use mathlib.Core.Path.{_≡_, refl, sym, ap, _∙_}
 use mathlib.Core.Logic.{_⊎_, inl, inr, ⊎-elim, _↔_}
 use mathlib.Core.Bool.{Bool, true, false, false≢true}
 use mathlib.Core.List.{List, [], _∷_, _++_, map}
@@ -180,15 +180,6 @@ module _ {f : ℕ → Refusal} where
 
   pub well-of : {n : ℕ} → firstOf (upTo n) f .number ≡ 0 → Well f n
   well-of {n} e = record { each = first-none n f (λ k h. (λ z. z, λ z. z)) .0 e }
-
--- what is the same below n has the same first refusal
-pub first-same : {f g : ℕ → Refusal} (n : ℕ) → ((k : ℕ) → k < n → f k ≡ g k) → firstOf (upTo n) f ≡ firstOf (upTo n) g
-unfolding upTo firstOf from
-first-same {f} {g} n e = same 0 n (λ k lo hi. e k (omega arith))
-  where
-    same : (i n : ℕ) → ((k : ℕ) → i ≤ k → k < i + n → f k ≡ g k) → firstOf (from i n) f ≡ firstOf (from i n) g
-    same i zero e = refl
-    same i (suc n) e = ap₂ orElse (e i (omega arith) (omega arith)) (same (suc i) n (λ k lo hi. e k (omega arith) (omega arith)))
 
 -- ---- Tables
 
