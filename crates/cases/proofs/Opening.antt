@@ -113,10 +113,10 @@ module _ (nodes paths : ℕ) (part : List ℕ) where
       (λ seven. (record { sound = rw (six, le-leb 1 (row .1 + 1) (omega arith)); byte = λ b. lt-ltb (row .1 + 1) 256 (omega (arith, tests)) }, t)))
 
   -- the row that is read of a byte, if its kind and widths are f
-  record Fitting (b : ℕ) (f : Format) : Type 0 where
+  record OfFormat (b : ℕ) (f : Format) : Type 0 where
     fits : OfKind (f .0) (b, numberAt part 1 (f .1), numberAt part (1 + f .1) (f .2), numberAt part (1 + f .1 + f .2) (f .3))
 
-  choose : (b n : ℕ) (x y : Format) → Fitting n x → Fitting b y → Fitting b (cond (eqb b n) x y)
+  choose : (b n : ℕ) (x y : Format) → OfFormat n x → OfFormat b y → OfFormat b (cond (eqb b n) x y)
   choose b n x y h k = by-test (eqb b n) (λ e. rw e (rw (eqb-true b n e) h)) (λ e. rw e k)
 
   none-byte : (b : ℕ) → shapeByte (shapeRuleOf (b, 0, 0, 0)) ≡ true
@@ -130,7 +130,7 @@ module _ (nodes paths : ℕ) (part : List ℕ) where
       (by-test (eqb b 0x25) (λ e. rw e) (λ e. rw e
       (by-test (eqb b 0x26) (λ e. rw e) (λ e. rw e)))))))))))))
 
-  format-fits : (b : ℕ) → Fitting b (partFormatOf b)
+  format-fits : (b : ℕ) → OfFormat b (partFormatOf b)
   unfolding partFormatOf shapeRuleOf numberAt references
   format-fits b =
       choose b 0x20 _ _ (record { fits = record { alone = λ e. refl; byte = λ h. refl } })

@@ -60,11 +60,11 @@ unknown-moved n [] = refl
 unknown-moved n (r ∷ l) = by-test (ltb (r .shape) n) (λ e. rw e (unknown-moved n l)) (λ e. rw e refl)
 
 -- what the two walks come to
-record Alike (w w′ : Walked) : Type 0 where
+record WalkedAlike (w w′ : Walked) : Type 0 where
   refusals : w′ .refusal ≡ later (w .refusal)
   cases : expanded (w′ .read) ≡ expanded (w .read)
 
-refused-alike : (n at : ℕ) {at′ : ℕ} → at′ ≡ 2 + at → 0 < n → Alike (refused n at) (refused n at′)
+refused-alike : (n at : ℕ) {at′ : ℕ} → at′ ≡ 2 + at → 0 < n → WalkedAlike (refused n at) (refused n at′)
 unfolding refused later
 refused-alike n at e h = record { refusals = rw (ne-eqb n 0 (omega arith), e); cases = refl }
 
@@ -79,7 +79,7 @@ module _ (s : List ℕ) where
       (λ e. rw (e, lt-ltb end′ (length behind) (omega (arith, ltb-true end (length s) e)), d))
       (λ e. rw (e, le-ltb end′ (length behind) (omega (arith, ltb-false end (length s) e))) (unknown-moved (length (p .written)) (p .named)))
 
-  finish-alike : (end : ℕ) {end′ : ℕ} → end′ ≡ 2 + end → (p : Progress) → Alike (finish s end p) (finish behind end′ (moved p))
+  finish-alike : (end : ℕ) {end′ : ℕ} → end′ ≡ 2 + end → (p : Progress) → WalkedAlike (finish s end p) (finish behind end′ (moved p))
   unfolding finish later moved expanded
   finish-alike end d p =
       by-test (eqb (afterEnd s end p .number) 0)
@@ -87,8 +87,8 @@ module _ (s : List ℕ) where
       (λ e. rw (after-moved end d p, e) (record { refusals = rw e; cases = refl }))
 
   step-alike : (onward onward′ : ℕ → Progress → Walked) (at : ℕ) {at′ : ℕ} → at′ ≡ 2 + at → (p : Progress)
-      → ((width : ℕ) (q : Progress) → 0 < width → Alike (onward (at + width) q) (onward′ (at′ + width) (moved q)))
-      → (f : Found) → GoodShows p (drop at s) f → FoundTakes f → Alike (stepped onward s at p f) (stepped onward′ behind at′ (moved p) f)
+      → ((width : ℕ) (q : Progress) → 0 < width → WalkedAlike (onward (at + width) q) (onward′ (at′ + width) (moved q)))
+      → (f : Found) → GoodShows p (drop at s) f → FoundTakes f → WalkedAlike (stepped onward s at p f) (stepped onward′ behind at′ (moved p) f)
   unfolding stepped GoodShows FoundTakes
   step-alike onward onward′ at d p more (Fault n) shows takes = refused-alike n at d takes
   step-alike onward onward′ at d p more (Good e taken) shows takes =
@@ -96,7 +96,7 @@ module _ (s : List ℕ) where
       (λ i. rw i (finish-alike (at + 1) (omega arith) p))
       (λ i. rw (i, pass-moved p at d (taken .group) e) (more (taken .width) (pass p at (taken .group) e) (shows .0 .some)))
 
-  walk-alike : (fuel at : ℕ) {at′ : ℕ} → at′ ≡ 2 + at → (p : Progress) → length s < at + fuel → Alike (walk fuel s at p) (walk (suc (suc fuel)) behind at′ (moved p))
+  walk-alike : (fuel at : ℕ) {at′ : ℕ} → at′ ≡ 2 + at → (p : Progress) → length s < at + fuel → WalkedAlike (walk fuel s at p) (walk (suc (suc fuel)) behind at′ (moved p))
   unfolding walk
   walk-alike zero at {at′} d p enough = rw (le-ltb at′ (length behind) (omega arith), walk) (refused-alike 3 at d (omega arith))
   walk-alike (suc fuel) at {at′} d p enough =

@@ -233,7 +233,7 @@ record Fits (b : Bounds) (g : ℕ) (c : Case) (command : Command) (write : List 
   named : all (shapesNamed command) (λ s. ltb s (b .shapes)) ≡ true
 
 -- the walk stands before these bytes, with fuel above them and behind the case c, under the profile; the shapes named so far are known
-record Stands (b : Bounds) (c : Case) (bytes : List ℕ) (fuel : ℕ) (s : List ℕ) (at : ℕ) (p : Progress) : Type 0 where
+record StandsBefore (b : Bounds) (c : Case) (bytes : List ℕ) (fuel : ℕ) (s : List ℕ) (at : ℕ) (p : Progress) : Type 0 where
   left : drop at s ≡ bytes
   fuelled : length s < at + fuel
   under : p .profile ≡ b .profile
@@ -249,7 +249,7 @@ record ReadAs (w : Walked) (c : Case) : Type 0 where
 record Reads (b : Bounds) (g : ℕ) (before : Case) (bytes : List ℕ) (c : Case) : Type 0 where
   some : 1 ≤ length bytes
   are-bytes : Bytes bytes
-  gives : {fuel : ℕ} {s : List ℕ} {at : ℕ} {p : Progress} → Stands b before bytes fuel s at p → inOrder (p .last) g ≡ true
+  gives : {fuel : ℕ} {s : List ℕ} {at : ℕ} {p : Progress} → StandsBefore b before bytes fuel s at p → inOrder (p .last) g ≡ true
       → ReadAs (walk fuel s at p) c
 
 -- what is found
@@ -267,33 +267,33 @@ module _ {n : Bounds} {g : ℕ} {c : Case} {command : Command} {write : List ℕ
   unfolding found
   group-is = ap (λ o. o .group) (m .is l)
 
-  step-fits : {fuel : ℕ} {s : List ℕ} {at : ℕ} {p : Progress} → Stands n c (write l) fuel s at p → inOrder (p .last) g ≡ true
+  step-fits : {fuel : ℕ} {s : List ℕ} {at : ℕ} {p : Progress} → StandsBefore n c (write l) fuel s at p → inOrder (p .last) g ≡ true
       → stepAt (p .profile) (p .last) (countsSoFar p) (write l) ≡ Is command (rowOf (write l)) (record { group = g; width = widthAt (write l) })
   unfolding found stepAt operandsBy takenOf widthOf
   step-fits {p} b order =
       rw (counts-held (b .holds), b .under, group-is, ap (λ o. o .command) (m .is l), lt-ltb g 7 (m .known), order)
       (rw (le-leb (widthAt (write l)) (length (write l)) whole) (m .passes (rowOf (write l)) (record { group = g; width = widthAt (write l) })))
 
-  found-fits : {fuel : ℕ} {s : List ℕ} {at : ℕ} {p : Progress} → Stands n c (write l) fuel s at p → inOrder (p .last) g ≡ true
+  found-fits : {fuel : ℕ} {s : List ℕ} {at : ℕ} {p : Progress} → StandsBefore n c (write l) fuel s at p → inOrder (p .last) g ≡ true
       → foundAt p (drop at s) ≡ foundOf command g (write l)
   unfolding foundAt roomyFound
   found-fits {p} b order =
       rw (b .left, not-nested (getD (write l) 0 0) g group-is (m .known))
       (rw (step-fits b order) (rw (room-held (b .holds) command (rw (b .under) (m .within))) (rw (there-held (b .holds) command (m .there)))))
 
-  walk-starts : {fuel : ℕ} {s : List ℕ} {at : ℕ} {p : Progress} → Stands n c (write l) fuel s at p → at < length s
+  walk-starts : {fuel : ℕ} {s : List ℕ} {at : ℕ} {p : Progress} → StandsBefore n c (write l) fuel s at p → at < length s
   unfolding widthOf
   walk-starts {s} {at} b = omega (arith, ap length (b .left), length-drop at s)
 
   walk-fits : {after : Case} {fuel : ℕ} {s : List ℕ} {at : ℕ} {p : Progress}
-      → ((less : ℕ) → Stands n c (write l) (suc less) s at p → ReadAs (stepped (walk less s) s at p (foundOf command g (write l))) after)
-      → Stands n c (write l) fuel s at p → inOrder (p .last) g ≡ true → ReadAs (walk fuel s at p) after
+      → ((less : ℕ) → StandsBefore n c (write l) (suc less) s at p → ReadAs (stepped (walk less s) s at p (foundOf command g (write l))) after)
+      → StandsBefore n c (write l) fuel s at p → inOrder (p .last) g ≡ true → ReadAs (walk fuel s at p) after
   unfolding walk
   walk-fits {fuel = zero} f b order = absurd (omega (arith, walk-starts b))
   walk-fits {fuel = suc less} {s} {at} f b order = rw (lt-ltb at (length s) (walk-starts b), walk) (rw (found-fits b order) (f less b))
 
-  stands-next : {fuel : ℕ} {s : List ℕ} {at : ℕ} {p : Progress} → Stands n c (write l) (suc fuel) s at p
-      → Stands n (add c command) l fuel s (at + widthAt (write l)) (pass p at g (entryOf command))
+  stands-next : {fuel : ℕ} {s : List ℕ} {at : ℕ} {p : Progress} → StandsBefore n c (write l) (suc fuel) s at p
+      → StandsBefore n (add c command) l fuel s (at + widthAt (write l)) (pass p at g (entryOf command))
   unfolding found namedAt widthOf
   stands-next {s} {at} {p} b =
       let t : Note → Bool = λ r. ltb (r .shape) (n .shapes) in
@@ -544,7 +544,7 @@ module _ (profile : ℕ) (c : Case) (w : Writable profile c) where
   unfolding walked walkedFrom encode start emptyCase all
   encoding-read =
       let s = encode profile c in
-      let begun : Stands (boundsOf profile c) emptyCase (encodeCase c) (suc (length s)) s 2 (start profile) =
+      let begun : StandsBefore (boundsOf profile c) emptyCase (encodeCase c) (suc (length s)) s 2 (start profile) =
       record { left = refl; fuelled = omega arith; under = refl; holds = record { case-is = refl; written-is = refl }; known = refl } in
       rw (heading-is profile (encodeCase c) (w .limited .known)) (encode-reads profile c w .gives begun refl)
 

@@ -249,12 +249,12 @@ unfoldable reach : Progress → ℕ
 reach p =
     8 + 6 * (length (p .case .edges) + length (p .case .paths) + length (p .case .targets)) + 10 * (length (p .written) + freshCount (p .written))
 
-record Reached (at : ℕ) (p : Progress) : Type 0 where
+record ReachedTo (at : ℕ) (p : Progress) : Type 0 where
   first : p .last ≡ 0 → at ≤ 2
   within : at ≤ reach p
 
 command-reach : (p : Progress) (part : List ℕ) (at g w : ℕ) (command : Command) → CommandShows p part g command → inOrder (p .last) g ≡ true
-    → w ≤ most (Other command) → isEnd command ≡ false → Reached at p → at + w ≤ reach (pass p at g (Other command))
+    → w ≤ most (Other command) → isEnd command ≡ false → ReachedTo at p → at + w ≤ reach (pass p at g (Other command))
 unfolding ofGroup most reach pass add
 command-reach p part at g w (Nodes n) h order m i k = omega (arith, k .first (order-first (p .last) (rw (eqb-true g 1 (h .grouped)) at order)))
 command-reach p part at g w (EdgeCommand e) h order m i k = omega (arith, k .within, length-snoc (p .case .edges) e)
@@ -264,13 +264,13 @@ command-reach p part at g w (TargetCommand t) h order m i k = omega (arith, k .w
 command-reach p part at g w End h order m i k = absurd (false≢true (sym i))
 
 entry-reach : (p : Progress) (part : List ℕ) (at g w : ℕ) (e : Entry) → EntryShows p part g e → inOrder (p .last) g ≡ true → w ≤ most e
-    → isEndEntry e ≡ false → Reached at p → at + w ≤ reach (pass p at g e)
+    → isEndEntry e ≡ false → ReachedTo at p → at + w ≤ reach (pass p at g e)
 unfolding EntryShows most reach pass
 entry-reach p part at g w (Shape x) h order m i k = omega (arith, k .within, length-snoc (p .written) x, freshCount-more (p .written) x)
 entry-reach p part at g w (Other command) h order m i k = command-reach p part at g w command h order m i k
 
 pass-reached : (p : Progress) (part : List ℕ) (at : ℕ) (e : Entry) (taken : Taken) → Shows p part e taken → taken .width ≤ most e
-    → isEndEntry e ≡ false → Reached at p → Reached (at + taken .width) (pass p at (taken .group) e)
+    → isEndEntry e ≡ false → ReachedTo at p → ReachedTo (at + taken .width) (pass p at (taken .group) e)
 pass-reached p part at e taken h m i k =
     record {
       first = λ z. absurd (omega (arith, h .known, last-pass p at (taken .group) e));
@@ -293,7 +293,7 @@ module _ (s : List ℕ) where
       (λ e. absurd (let z : _≡_ {A = ℕ} 8 0 = rw e at h in omega arith))
       (λ e. ltb-false end (length s) e)
 
-  finish-ended : (at : ℕ) (p : Progress) → Reached at p → Ended s (finish s (at + 1) p)
+  finish-ended : (at : ℕ) (p : Progress) → ReachedTo at p → Ended s (finish s (at + 1) p)
   unfolding finish
   finish-ended at p k =
       let after = afterEnd s (at + 1) p .number in
@@ -301,8 +301,8 @@ module _ (s : List ℕ) where
       (λ e. rw e (record { ended = λ z. omega (arith, k .within, after-none (at + 1) p (eqb-true after 0 e)) }))
       (λ e. rw e (record { ended = λ z. absurd (false≢true (sym e ∙ rw z)) }))
 
-  step-ended : (onward : ℕ → Progress → Walked) → ((at : ℕ) (p : Progress) → Reached at p → Ended s (onward at p)) → (at : ℕ) (p : Progress) (f : Found)
-      → GoodShows p (drop at s) f → FoundTakes f → Reached at p → Ended s (stepped onward s at p f)
+  step-ended : (onward : ℕ → Progress → Walked) → ((at : ℕ) (p : Progress) → ReachedTo at p → Ended s (onward at p)) → (at : ℕ) (p : Progress) (f : Found)
+      → GoodShows p (drop at s) f → FoundTakes f → ReachedTo at p → Ended s (stepped onward s at p f)
   unfolding stepped GoodShows FoundTakes
   step-ended onward ih at p (Fault n) h m k = refused-ended n at m
   step-ended onward ih at p (Good e taken) h m k =
@@ -310,7 +310,7 @@ module _ (s : List ℕ) where
       (λ i. rw i (finish-ended at p k))
       (λ i. rw i (ih (at + taken .width) _ (pass-reached p (drop at s) at e taken (h .0) m i k)))
 
-  walk-ended : (fuel at : ℕ) (p : Progress) → Reached at p → Ended s (walk fuel s at p)
+  walk-ended : (fuel at : ℕ) (p : Progress) → ReachedTo at p → Ended s (walk fuel s at p)
   unfolding walk
   walk-ended zero at p k = refused-ended 3 at (omega arith)
   walk-ended (suc fuel) at p k =
@@ -318,7 +318,7 @@ module _ (s : List ℕ) where
       (λ e. rw (e, walk) (step-ended (walk fuel s) (walk-ended fuel) at p (foundAt p (drop at s)) (found-shows p (drop at s)) (found-takes p (drop at s)) k))
       (λ e. rw (e, walk) (refused-ended 3 at (omega arith)))
 
-start-reached : (profile width : ℕ) → width ≤ 2 → Reached width (start profile)
+start-reached : (profile width : ℕ) → width ≤ 2 → ReachedTo width (start profile)
 unfolding reach start
 start-reached profile width h = record { first = λ z. h; within = omega arith }
 

@@ -20,7 +20,7 @@ use Rattle.cases.specs.declared.counts.Counts.{Counts}
 use Rattle.cases.proofs.InRows.{nodes-in, shapes-in}
 use Rattle.fixpoint.specs.Lists.{all}
 use Rattle.fixpoint.specs.Stages.{Stable}
-use Rattle.fixpoint.proofs.Alternating.{solved-stable}
+use Rattle.fixpoint.proofs.Alternating.{rest-stable}
 use Rattle.fixpoint.proofs.Lists.{length-made}
 use Rattle.levels.specs.Running.{LevelsWritten}
 use Rattle.reader.specs.Parsing.{ParsedAs}
@@ -98,7 +98,7 @@ module _ {s : List ℕ} {p : Parsed} {rows : List ℕ} (values levels verdicts :
 
 rests : (c : Case) → Stable (pairCount c) (nextSet c) (solvedT c) (solvedP c)
 unfolding solvedT solvedP
-rests c = solved-stable (pairCount c) (nextSet c) (rule-system c)
+rests c = rest-stable (pairCount c) (nextSet c) (rule-system c)
 
 -- how long what solving writes is
 module _ (c : Case) where

@@ -35,13 +35,13 @@ unfolding caseOf
 pairs-fit s v = rw (length-replicate 4096 v) (pairs-at-most (outcome s .case) (outcome-limited s))
 
 -- 01 00 00 FF reads, as a case without anything
-pub nothing : (outcome (0x01 ∷ 0x00 ∷ 0x00 ∷ 0xff ∷ []) .refusal .number ≡ 0) × (outcome (0x01 ∷ 0x00 ∷ 0x00 ∷ 0xff ∷ []) .case ≡ emptyCase)
+pub empty-input-reads : (outcome (0x01 ∷ 0x00 ∷ 0x00 ∷ 0xff ∷ []) .refusal .number ≡ 0) × (outcome (0x01 ∷ 0x00 ∷ 0x00 ∷ 0xff ∷ []) .case ≡ emptyCase)
 unfolding emptyCase Format.formatOf Format.widthOf Format.takenOf Format.numberAt Format.rowOf Format.complete Format.operandsBy
     Format.commandOf Format.commandAt Parts.rules Parts.freshRules Parts.expansion
     Reading.judged Reading.stepAt Reading.start Reading.add Reading.shapesNamed Reading.namedAt Reading.pass Reading.unknownShape
     Reading.afterEnd Reading.finish Reading.stepped Reading.walk Reading.countsSoFar Reading.roomyFound Reading.foundAt
     Reading.headingOf Reading.walkedFrom Reading.walked Reading.expanded Reading.outcome Counts.nodeLimit
-nothing = (refl, refl)
+empty-input-reads = (refl, refl)
 
 pub reads-input : (s : List ℕ) → outcome s .refusal .number ≡ 0 → heldInput s ≡ s
 unfolding heldInput

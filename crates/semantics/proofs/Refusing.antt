@@ -183,9 +183,9 @@ module _ {f : ℕ → Refusal} where
 
 -- ---- Tables
 
-pub counted-none : (r : Refusal) (n : ℕ) → r .number ≡ 0 → counted r n ≡ n
+pub counted-unrefused : (r : Refusal) (n : ℕ) → r .number ≡ 0 → counted r n ≡ n
 unfolding counted
-counted-none r n e = rw e
+counted-unrefused r n e = rw e
 
 pub written-none : (r : Refusal) (entries table : List ℕ) → r .number ≡ 0 → written r entries table ≡ entries ++ drop (length entries) table
 unfolding written

@@ -31,9 +31,9 @@ use Rattle.semantics.proofs.Kernel.{rule-system}
 use Rattle.semantics.proofs.Levels.{accepted-stable, stable-accepted, levels-small, levels-length}
 use Rattle.semantics.proofs.Solved.{solved-valued, solved-length, solved-stable, solved-valid-set, solved-possible-set, valid-exactly, violated-exactly, rounds-at-most}
 use Rattle.semantics.proofs.Undenied.{only-solved}
-use Rattle.semantics.proofs.Refusing.{orElse-none, unless-none, refuse-none, short-none, first-none, counted-none}
+use Rattle.semantics.proofs.Refusing.{orElse-none, unless-none, refuse-none, short-none, first-none, counted-unrefused}
 use Rattle.semantics.proofs.Refusing.{written-none, written-at, written-refused, length-levelBytes, levels-read-back, levelBytes-bytes}
-use Rattle.theorems.specs.Demands.{Reads, SolvedCase, Untouched, LeadingWritten, AcceptedLevels, targetPair, RoundsCounted}
+use Rattle.theorems.specs.Demands.{Reads, SolvedCase, Untouched, LeadingWritten, AcceptedLevels, pairOfTarget, RoundsCounted}
 
 pub case-sound : (s : List ℕ) → Sound (caseOf s)
 unfolding caseOf
@@ -171,12 +171,12 @@ module _ (c : Case) (v v′ : List ℕ) (agree : (k : ℕ) → k < pairCount c �
 nowhere : Target
 nowhere = record { shape = record { 0 = 0 }; node = record { 0 = 0 } }
 
-target-below : (c : Case) → Sound c → (i : ℕ) → i < length (c .targets) → targetPair c i < pairCount c
+target-below : (c : Case) → Sound c → (i : ℕ) → i < length (c .targets) → pairOfTarget c i < pairCount c
 target-below c sound i h =
     rw (getD-map (λ t. pairOf c (t .shape .0) (t .node .0)) (c .targets) i nowhere 0 h)
     (pair-below c _ _ (ltb-true _ _ (all-in (c .targets) _ (sound .targets-named) i nowhere h)) (ltb-true _ _ (all-in (c .targets) _ (sound .targets-known) i nowhere h)))
 
-verdict-at : (c : Case) (i : ℕ) → i < length (c .targets) → getD (verdicts c) i 0 ≡ getD (solvedValues c) (targetPair c i) 0
+verdict-at : (c : Case) (i : ℕ) → i < length (c .targets) → getD (verdicts c) i 0 ≡ getD (solvedValues c) (pairOfTarget c i) 0
 unfolding verdicts targetValues
 verdict-at c i h =
     getD-map _ (c .targets) i nowhere 0 h
@@ -191,7 +191,7 @@ module _ (s vt lt dt : List ℕ) (solved : SolvedCase s vt lt dt) where
   unfolding solveValues solveAnswer solution
   value-at k h = sym (written-at (solveRefusal s vt lt dt) (solvedValues (caseOf s)) vt (solved .number-zero) k (omega (arith, solved-length (caseOf s))))
 
-  target-value : (i : ℕ) → i < length (caseOf s .targets) → getD (solvedValues (caseOf s)) (targetPair (caseOf s) i) 0 ≡ getD (solveVerdicts s vt lt dt) i 0
+  target-value : (i : ℕ) → i < length (caseOf s .targets) → getD (solvedValues (caseOf s)) (pairOfTarget (caseOf s) i) 0 ≡ getD (solveVerdicts s vt lt dt) i 0
   unfolding solveVerdicts solveAnswer solution
   target-value i h =
       sym (written-at (solveRefusal s vt lt dt) (verdicts (caseOf s)) dt (solved .number-zero) i (omega (arith, length-verdicts (caseOf s)))
@@ -220,22 +220,22 @@ module _ (s vt lt dt : List ℕ) (solved : SolvedCase s vt lt dt) where
   solved-violated-exactly k h = rw (← value-at k h) (violated-exactly (caseOf s) k h)
 
   -- a target's byte is its pair's byte in the value table
-  pub target-is-its-pair : (i : ℕ) → i < length (caseOf s .targets) → getD (solveVerdicts s vt lt dt) i 0 ≡ getD (solveValues s vt lt dt) (targetPair (caseOf s) i) 0
+  pub target-is-its-pair : (i : ℕ) → i < length (caseOf s .targets) → getD (solveVerdicts s vt lt dt) i 0 ≡ getD (solveValues s vt lt dt) (pairOfTarget (caseOf s) i) 0
   target-is-its-pair i h = sym (target-value i h) ∙ value-at _ (target-below (caseOf s) (case-sound s) i h)
 
-  pub target-sure-exactly : (i : ℕ) → i < length (caseOf s .targets) → (getD (solveVerdicts s vt lt dt) i 0 ≡ 2) ↔ EveryStable (caseOf s) (targetPair (caseOf s) i) 2
+  pub target-sure-exactly : (i : ℕ) → i < length (caseOf s .targets) → (getD (solveVerdicts s vt lt dt) i 0 ≡ 2) ↔ EveryStable (caseOf s) (pairOfTarget (caseOf s) i) 2
   target-sure-exactly i h = rw (← target-value i h) (valid-exactly (caseOf s) _ (target-below (caseOf s) (case-sound s) i h))
 
-  pub target-impossible-exactly : (i : ℕ) → i < length (caseOf s .targets) → (getD (solveVerdicts s vt lt dt) i 0 ≡ 0) ↔ EveryStable (caseOf s) (targetPair (caseOf s) i) 0
+  pub target-impossible-exactly : (i : ℕ) → i < length (caseOf s .targets) → (getD (solveVerdicts s vt lt dt) i 0 ≡ 0) ↔ EveryStable (caseOf s) (pairOfTarget (caseOf s) i) 0
   target-impossible-exactly i h = rw (← target-value i h) (violated-exactly (caseOf s) _ (target-below (caseOf s) (case-sound s) i h))
 
   -- else open
-  pub target-else-open : (i : ℕ) → i < length (caseOf s .targets) → (EveryStable (caseOf s) (targetPair (caseOf s) i) 2 → ⊥)
-      → (EveryStable (caseOf s) (targetPair (caseOf s) i) 0 → ⊥) → getD (solveVerdicts s vt lt dt) i 0 ≡ 1
+  pub target-else-open : (i : ℕ) → i < length (caseOf s .targets) → (EveryStable (caseOf s) (pairOfTarget (caseOf s) i) 2 → ⊥)
+      → (EveryStable (caseOf s) (pairOfTarget (caseOf s) i) 0 → ⊥) → getD (solveVerdicts s vt lt dt) i 0 ≡ 1
   unfolding valued isValue
   target-else-open i h sure impossible =
       let c = caseOf s in
-      let k = targetPair c i in
+      let k = pairOfTarget c i in
       let b = target-below c (case-sound s) i h in
       let small = leb-true (getD (solvedValues c) k 0) 2 (all-upTo-in (pairCount c) _ (solved-valued c) k b) in
       let not-two : getD (solvedValues c) k 0 ≡ 2 → ⊥ = λ e. sure (valid-exactly c k b .0 e) in
@@ -247,7 +247,7 @@ module _ (s vt lt dt : List ℕ) (solved : SolvedCase s vt lt dt) where
 
   pub rounds-answered : solveAnswer s vt lt dt .rounds ≡ rounds (caseOf s)
   unfolding solveAnswer solution
-  rounds-answered = counted-none (solveRefusal s vt lt dt) (rounds (caseOf s)) (solved .number-zero)
+  rounds-answered = counted-unrefused (solveRefusal s vt lt dt) (rounds (caseOf s)) (solved .number-zero)
 
   pub rounds-counted : RoundsCounted (caseOf s) (solveAnswer s vt lt dt .rounds)
   unfolding rounds

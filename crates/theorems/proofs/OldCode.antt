@@ -16,7 +16,7 @@ use Rattle.semantics.proofs.OldCode.{old-takes-supported}
 use Rattle.semantics.proofs.Refusing.{orElse-none}
 use Rattle.semantics.specs.declared.answers.CheckedOld.{CheckedOld}
 use Rattle.theorems.specs.Demands.{Reads}
-use Rattle.theorems.specs.Samples.{ring, vouched, requested}
+use Rattle.theorems.specs.Samples.{ring, vouched, requestedSamples}
 use Rattle.theorems.proofs.Demands.{case-sound, check-none}
 use Rattle.theorems.proofs.Samples.{requested-samples}
 
@@ -38,7 +38,7 @@ newer-passes-older s vt lt h =
 -- "and the ring of document 01 shows that the converse fails": the old code takes the proposal, and the newer code refuses it,
 -- whatever the level table
 pub converse-fails : (oldAnswer ring vouched .number ≡ 0) × ((lt : List ℕ) → checkAnswer ring vouched lt .number ≡ 0 → ⊥)
-unfolding requested
+unfolding requestedSamples
 converse-fails = (
   ap (λ (a : CheckedOld). a .number) (requested-samples .0),
   λ lt h. requested-samples .1 .0

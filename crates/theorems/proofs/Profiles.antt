@@ -13,7 +13,7 @@ use Rattle.encoding.proofs.Alike.{without-profile}
 use Rattle.semantics.specs.OldCode.{oldRefusal, oldAnswer}
 use Rattle.semantics.specs.Operations.{caseOf, solveRefusal, solveAnswer, solveValues, solveLevels, solveVerdicts, checkRefusal, checkAnswer, rankRefusal, rankAnswer, rankStrata}
 use Rattle.semantics.specs.Totals.{totalsRefusal, totalsAnswer}
-use Rattle.semantics.specs.Unfinished.{opened, opening, heldInput, begun, heldCase, afterRound, advanced, advanceAnswer, certainOf, asked}
+use Rattle.semantics.specs.Unfinished.{firstStateWith, firstState, heldInput, begun, heldCase, afterRound, advanced, advanceAnswer, certainOf, asked}
 use Rattle.semantics.specs.Values.{pairCount}
 use Rattle.semantics.specs.declared.ongoing.Unfinished.{Unfinished}
 use Rattle.theorems.specs.Demands.{Reads}
@@ -50,7 +50,7 @@ module _ (s t : List ℕ) (e : outcome s ≡ outcome t) where
   held-alike = rw e (by-test (eqb (outcome t .refusal .number) 0) (λ z. rw z (case-alike s t e)) (λ z. rw z refl))
 
   standing-alike : (i : ℕ) → Standing (solving s i) (solving t i)
-  unfolding solving after begun opening opened heldBy
+  unfolding solving after begun firstState firstStateWith heldBy
   standing-alike zero = record { values = refl; pairs = ap pairCount held-alike; over = refl }
   standing-alike (suc i) = advance-alike (solving s i) (solving t i) (copy-whole s i ∙ held-alike ∙ sym (copy-whole t i)) (standing-alike i)
 

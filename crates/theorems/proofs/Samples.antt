@@ -24,7 +24,7 @@ use Rattle.semantics.specs.Solving
 use Rattle.semantics.specs.Denial
 use Rattle.semantics.specs.Operations
 use Rattle.semantics.specs.OldCode
-use Rattle.theorems.specs.Samples.{OnlyStable, AllPass, lent, twoBytes, solved, ranked, ring, oneNode, clash, notItself, orItself, twoPaths, noFillers, nested, parked, vouched, starred, requested}
+use Rattle.theorems.specs.Samples.{OnlyStable, AllPass, lent, smallLevelBytes, afterSolving, afterRanking, ring, oneNode, clash, notItself, orItself, twoPaths, noFillers, nested, parked, vouched, starredSamples, requestedSamples}
 
 -- a value that is 2 exactly if it is not at least 1 is 1
 only-one : (x : ℕ) → leb x 2 ≡ true → eqb x 2 ≡ not (leb 1 x) → x ≡ 1
@@ -39,8 +39,8 @@ one-pair v w e (suc k) h = absurd (omega arith)
 
 -- All but two compute. The shape that is not itself: T = C(P) says that its pair is valid exactly if it isn't possible. The ring's proposal:
 -- C(P) has not node 2 as Linked, which is pair 14.
-samples : AllPass starred × AllPass requested
-unfolding starred requested ring vouched oneNode clash notItself orItself twoPaths noFillers nested parked lent twoBytes solved ranked
+samples : AllPass starredSamples × AllPass requestedSamples
+unfolding starredSamples requestedSamples ring vouched oneNode clash notItself orItself twoPaths noFillers nested parked lent smallLevelBytes afterSolving afterRanking
     Lists.from Lists.upTo Lists.any Lists.all Lists.keep Lists.count Lists.largest Lists.insert Lists.sort Lists.nthSmallest
     Lists.nthLargest Lists.firstFrom
     Sets.has Sets.collect Sets.none Sets.same
@@ -82,8 +82,8 @@ samples = (
               (ap (λ (S : List Bool). Sets.has S 0) (st .closed .lower-closed)));
         }
 
-pub starred-samples : AllPass starred
+pub starred-samples : AllPass starredSamples
 starred-samples = samples .0
 
-pub requested-samples : AllPass requested
+pub requested-samples : AllPass requestedSamples
 requested-samples = samples .1

@@ -12,7 +12,7 @@ use Rattle.fixpoint.proofs.Lists.{made-same}
 use Rattle.semantics.specs.Operations.{caseOf, solveRefusal, solveAnswer, solution, tally}
 use Rattle.semantics.specs.Solving.{solvedValues}
 use Rattle.semantics.specs.Totals.{nodeTally, totalsFault, totalsRefusal, totals, totalsAnswer}
-use Rattle.semantics.proofs.Refusing.{orElse-none, unless-none, counted-none}
+use Rattle.semantics.proofs.Refusing.{orElse-none, unless-none, counted-unrefused}
 use Rattle.semantics.proofs.Totals.{nodes-add-up}
 use Rattle.theorems.specs.Demands.{Reads, SolvedCase}
 use Rattle.theorems.proofs.Demands.{solve-none}
@@ -33,11 +33,11 @@ module _ (s vt lt dt : List ℕ) (solved : SolvedCase s vt lt dt) where
   pub valid-adds-up : sum (map (λ a. totalsAnswer s a .valid) (upTo (caseOf s .nodes))) ≡ solveAnswer s vt lt dt .valid
   unfolding totalsAnswer totals solveAnswer solution
   valid-adds-up =
-      rw (made-same _ (nodeTally 2 (caseOf s)) (caseOf s .nodes) (λ a h. counted-none (totalsRefusal s a) (nodeTally 2 (caseOf s) a) (given a h)))
-      (nodes-add-up 2 (caseOf s) ∙ sym (counted-none (solveRefusal s vt lt dt) (tally 2 (solvedValues (caseOf s))) (solved .number-zero)))
+      rw (made-same _ (nodeTally 2 (caseOf s)) (caseOf s .nodes) (λ a h. counted-unrefused (totalsRefusal s a) (nodeTally 2 (caseOf s) a) (given a h)))
+      (nodes-add-up 2 (caseOf s) ∙ sym (counted-unrefused (solveRefusal s vt lt dt) (tally 2 (solvedValues (caseOf s))) (solved .number-zero)))
 
   pub undetermined-adds-up : sum (map (λ a. totalsAnswer s a .undetermined) (upTo (caseOf s .nodes))) ≡ solveAnswer s vt lt dt .undetermined
   unfolding totalsAnswer totals solveAnswer solution
   undetermined-adds-up =
-      rw (made-same _ (nodeTally 1 (caseOf s)) (caseOf s .nodes) (λ a h. counted-none (totalsRefusal s a) (nodeTally 1 (caseOf s) a) (given a h)))
-      (nodes-add-up 1 (caseOf s) ∙ sym (counted-none (solveRefusal s vt lt dt) (tally 1 (solvedValues (caseOf s))) (solved .number-zero)))
+      rw (made-same _ (nodeTally 1 (caseOf s)) (caseOf s .nodes) (λ a h. counted-unrefused (totalsRefusal s a) (nodeTally 1 (caseOf s) a) (given a h)))
+      (nodes-add-up 1 (caseOf s) ∙ sym (counted-unrefused (solveRefusal s vt lt dt) (tally 1 (solvedValues (caseOf s))) (solved .number-zero)))

@@ -25,12 +25,12 @@ use Rattle.semantics.specs.declared.ongoing.Certainty.the-variants.{Impossible,
 use Rattle.semantics.specs.Operations.{caseOf, solveAnswer, solveValues}
 use Rattle.semantics.specs.Solving.{rounds, solvedT, solvedP, valuesOf, solvedValues}
 use Rattle.semantics.specs.Stability.{nextSet}
-use Rattle.semantics.specs.Unfinished.{opened, opening, heldInput, begun, heldCase, workedP, nextT, afterRound, advanced, advanceAnswer}
+use Rattle.semantics.specs.Unfinished.{firstStateWith, firstState, heldInput, begun, heldCase, workedP, nextT, afterRound, advanced, advanceAnswer}
 use Rattle.semantics.specs.Unfinished.{certainty, certainOf, replied, asked}
 use Rattle.semantics.specs.Values.{pairCount}
 use Rattle.semantics.proofs.Kernel.{rule-system}
 use Rattle.semantics.proofs.Refusing.{zero-cases}
-use Rattle.semantics.proofs.Held.{copied-whole, pairs-fit, nothing, reads-input, refused-input}
+use Rattle.semantics.proofs.Held.{copied-whole, pairs-fit, empty-input-reads, reads-input, refused-input}
 use Rattle.semantics.proofs.States.{before-end, after-end, asked-within}
 use Rattle.semantics.proofs.Rounds.{value-sure, settled-T, worked-P, next-T, last-round}
 use Rattle.semantics.proofs.Solved.{value-of, values-length, solved-length}
@@ -43,7 +43,7 @@ use Rattle.theorems.proofs.Demands.{solved-reads, rounds-answered, solv
 -- what is held reads
 input-reads : (s : List ℕ) → Reads (heldInput s)
 input-reads s =
-    ⊎-elim (λ r. rw (reads-input s r) r) (λ n. rw (refused-input s n) (nothing .0)) (zero-cases (outcome s .refusal .number))
+    ⊎-elim (λ r. rw (reads-input s r) r) (λ n. rw (refused-input s n) (empty-input-reads .0)) (zero-cases (outcome s .refusal .number))
 
 -- "it keeps its own copy of the case as read"
 pub reads-held : (s : List ℕ) → Reads s → heldBy s ≡ caseOf s
@@ -53,7 +53,7 @@ reads-held s r = ap caseOf (reads-input s r)
 -- "a refused one holds the case 01 00 00 FF instead": no nodes, and nothing else
 pub refused-empty : (s : List ℕ) → (Reads s → ⊥) → heldBy s ≡ emptyCase
 unfolding heldBy caseOf
-refused-empty s n = ap caseOf (refused-input s n) ∙ nothing .1
+refused-empty s n = ap caseOf (refused-input s n) ∙ empty-input-reads .1
 
 -- ---- The sets: those of T grow, those of the last P shrink, T is within P, and after the rounds both are the solved ones
 
@@ -103,7 +103,7 @@ record AfterAdvances (s : List ℕ) (i : ℕ) (u : Unfinished) : Type 0 where
   over : u .over ≡ cond (leb (rounds (heldBy s)) i) 1 0
 
 first-after : (s : List ℕ) → AfterAdvances s 0 (begun s .unfinished)
-unfolding begun opening opened heldBy lastP lower
+unfolding begun firstState firstStateWith heldBy lastP lower
 first-after s =
     let c = heldBy s in
     let N = pairCount c in

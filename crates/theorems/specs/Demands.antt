@@ -53,8 +53,8 @@ pub record AcceptedLevels (s valueTable : List ℕ) : Type 0 where
 -- ---- Demand 3
 
 -- the pair of target i
-abbrev pub targetPair : Case → ℕ → ℕ
-targetPair c i = getD (map (λ t. pairOf c (t .shape .0) (t .node .0)) (c .targets)) i 0
+abbrev pub pairOfTarget : Case → ℕ → ℕ
+pairOfTarget c i = getD (map (λ t. pairOf c (t .shape .0) (t .node .0)) (c .targets)) i 0
 
 -- Ti of solving
 abbrev pub roundT : Case → ℕ → List Bool

@@ -39,20 +39,20 @@ lent zero = []
 lent (suc n) = 0xee ∷ lent n
 
 -- levels below 256 as bytes, two each, low first
-unfoldable pub twoBytes : List ℕ → List ℕ
-twoBytes [] = []
-twoBytes (x ∷ l) = x ∷ 0 ∷ twoBytes l
+unfoldable pub smallLevelBytes : List ℕ → List ℕ
+smallLevelBytes [] = []
+smallLevelBytes (x ∷ l) = x ∷ 0 ∷ smallLevelBytes l
 
-unfoldable pub solved : List ℕ → List ℕ → List ℕ → List ℕ → Solution × List ℕ × List ℕ × List ℕ
-solved s vt lt dt = (
+unfoldable pub afterSolving : List ℕ → List ℕ → List ℕ → List ℕ → Solution × List ℕ × List ℕ × List ℕ
+afterSolving s vt lt dt = (
   Operations.solveAnswer s vt lt dt,
   Operations.solveValues s vt lt dt,
   Operations.solveLevels s vt lt dt,
   Operations.solveVerdicts s vt lt dt,
 )
 
-unfoldable pub ranked : List ℕ → List ℕ → Ranked × List ℕ
-ranked s table = (Operations.rankAnswer s table, Operations.rankStrata s table)
+unfoldable pub afterRanking : List ℕ → List ℕ → Ranked × List ℕ
+afterRanking s table = (Operations.rankAnswer s table, Operations.rankStrata s table)
 
 pub record OnlyStable (s values : List ℕ) : Type 0 where
   pub is-stable : Stability.StableAssignment (Operations.caseOf s) values
@@ -61,11 +61,11 @@ pub record OnlyStable (s values : List ℕ) : Type 0 where
 -- the tables to be written are lent as long as they have to be
 abbrev pub Passes : Sample → Type 0
 Passes (solves s answer values levels verdicts) =
-    solved s (lent (length values)) (lent (length (twoBytes levels))) (lent (length verdicts))
-    ≡ (answer, values, twoBytes levels, verdicts)
-Passes (checks s values levels answer) = Operations.checkAnswer s values (twoBytes levels) ≡ answer
+    afterSolving s (lent (length values)) (lent (length (smallLevelBytes levels))) (lent (length verdicts))
+    ≡ (answer, values, smallLevelBytes levels, verdicts)
+Passes (checks s values levels answer) = Operations.checkAnswer s values (smallLevelBytes levels) ≡ answer
 Passes (checksOld s values answer) = OldCode.oldAnswer s values ≡ answer
-Passes (ranks s answer strata) = ranked s (lent (length strata)) ≡ (answer, strata)
+Passes (ranks s answer strata) = afterRanking s (lent (length strata)) ≡ (answer, strata)
 Passes (expands s shapes) = Operations.caseOf s .shapes ≡ shapes
 Passes (onlyStable s values) = OnlyStable s values
 Passes (unstable s values) = Stability.StableAssignment (Operations.caseOf s) values → ⊥
@@ -164,8 +164,8 @@ abbrev checked : (number place : ℕ) → Checked
 checked n p = record { number = n; place = p; undetermined = 0; valid = 0 }
 
 -- in the document's order
-unfoldable pub starred : List Sample
-starred =
+unfoldable pub starredSamples : List Sample
+starredSamples =
     solves ring (solution 2 10 0 1 0 1)
     (2 ∷ 2 ∷ 2 ∷ 2 ∷ 2 ∷ 0 ∷ 0 ∷ 0 ∷ 0 ∷ 2 ∷ 0 ∷ 0 ∷ 2 ∷ 2 ∷ 0 ∷ 0 ∷ 0 ∷ 0 ∷ 2 ∷ 2 ∷ [])
     (1 ∷ 1 ∷ 1 ∷ 1 ∷ 2 ∷ 0 ∷ 0 ∷ 0 ∷ 0 ∷ 4 ∷ 0 ∷ 0 ∷ 3 ∷ 5 ∷ 0 ∷ 0 ∷ 0 ∷ 0 ∷ 1 ∷ 1 ∷ [])
@@ -186,8 +186,8 @@ starred =
 
 -- the old code takes the ring's proposal, which is not stable; the rule inside rules: both nots stay, and the at most makes a not and an at
 -- least; the parked edge
-unfoldable pub requested : List Sample
-requested =
+unfoldable pub requestedSamples : List Sample
+requestedSamples =
     checksOld ring vouched (record { number = 0; place = 0; undetermined = 0; valid = 2; code = 1 })
     ∷ unstable ring vouched
     ∷ expands nested

@@ -15,10 +15,10 @@ use Rattle.cases.specs.declared.answers.Reading.{Reading}
 use Rattle.encoding.proofs.Lengths.{outcome-length}
 use Rattle.cases.proofs.Sound.{outcome-limited}
 use Rattle.semantics.specs.Operations.{caseOf}
-use Rattle.semantics.specs.Unfinished.{copied, opened, opening, heldInput, begun}
+use Rattle.semantics.specs.Unfinished.{copied, firstStateWith, firstState, heldInput, begun}
 use Rattle.semantics.specs.Values.{pairCount}
 use Rattle.semantics.specs.declared.ongoing.Unfinished.{Unfinished}
-use Rattle.semantics.proofs.Held.{nothing, reads-input, refused-input}
+use Rattle.semantics.proofs.Held.{empty-input-reads, reads-input, refused-input}
 use Rattle.semantics.proofs.Pairs.{pairs-at-most}
 
 -- what is copied into zeros
@@ -45,13 +45,13 @@ copy-is n s h =
     ∙ sym (getD-made (λ k. getD s k 0) n k 0 l)))
 
 pub input-opened : (s : List ℕ) (pairs : ℕ) {held : List ℕ} → length s ≤ 8192 → held ≡ take (length s) s ++ drop (length s) (replicate 8192 0)
-    → record { bytes = held; length = length s; values = replicate 4096 1; pairs = pairs; over = 0 } ≡ opened s pairs
-unfolding opened
+    → record { bytes = held; length = length s; values = replicate 4096 1; pairs = pairs; over = 0 } ≡ firstStateWith s pairs
+unfolding firstStateWith
 input-opened s pairs h e = ap (λ b. record { bytes = b; length = length s; values = replicate 4096 1; pairs = pairs; over = 0 }) (e ∙ copy-is 8192 s h)
 
-opened-is : (s : List ℕ) (pairs : ℕ) → pairs ≡ pairCount (caseOf s) → opened s pairs ≡ opening s
-unfolding opening
-opened-is s pairs e = ap (opened s) e
+opened-is : (s : List ℕ) (pairs : ℕ) → pairs ≡ pairCount (caseOf s) → firstStateWith s pairs ≡ firstState s
+unfolding firstState
+opened-is s pairs e = ap (firstStateWith s) e
 
 -- What reading answers
 module _ (s : List ℕ) {a : Reading} (e : a ≡ reading s) where
@@ -63,15 +63,15 @@ module _ (s : List ℕ) {a : Reading} (e : a ≡ reading s) where
   unfolding reading pairCount caseOf countsOf
   pairs-are = ap₂ (λ m n. m * n) (ap (λ (r : Reading). r .shapes) e) (ap (λ (r : Reading). r .nodes) e)
 
-  pub start-refused : {u : Unfinished} → (a .number ≡ 0 → ⊥) → u ≡ opened (0x01 ∷ 0x00 ∷ 0x00 ∷ 0xff ∷ []) 0 → u ≡ opening (heldInput s)
+  pub start-refused : {u : Unfinished} → (a .number ≡ 0 → ⊥) → u ≡ firstStateWith (0x01 ∷ 0x00 ∷ 0x00 ∷ 0xff ∷ []) 0 → u ≡ firstState (heldInput s)
   unfolding caseOf pairCount emptyCase
   start-refused some f =
       f
-      ∙ opened-is (0x01 ∷ 0x00 ∷ 0x00 ∷ 0xff ∷ []) 0 (sym (ap pairCount (nothing .1)))
-      ∙ ap opening (sym (refused-input s (λ z. some (number-is ∙ z))))
+      ∙ opened-is (0x01 ∷ 0x00 ∷ 0x00 ∷ 0xff ∷ []) 0 (sym (ap pairCount (empty-input-reads .1)))
+      ∙ ap firstState (sym (refused-input s (λ z. some (number-is ∙ z))))
 
-  pub start-read : {u : Unfinished} → a .number ≡ 0 → u ≡ opened s (a .shapes * a .nodes) → u ≡ opening (heldInput s)
-  start-read none f = f ∙ opened-is s (a .shapes * a .nodes) pairs-are ∙ ap opening (sym (reads-input s (sym number-is ∙ none)))
+  pub start-read : {u : Unfinished} → a .number ≡ 0 → u ≡ firstStateWith s (a .shapes * a .nodes) → u ≡ firstState (heldInput s)
+  start-read none f = f ∙ opened-is s (a .shapes * a .nodes) pairs-are ∙ ap firstState (sym (reads-input s (sym number-is ∙ none)))
 
   pub input-short : a .number ≡ 0 → length s ≤ 8192
   input-short none = outcome-length s (sym number-is ∙ none)
@@ -80,7 +80,7 @@ module _ (s : List ℕ) {a : Reading} (e : a ≡ reading s) where
   unfolding caseOf
   pairs-fit-word = record { fits = omega (arith, pairs-are, pairs-at-most (outcome s .case) (outcome-limited s)) }
 
-  pub begun-is : {u : Unfinished} → u ≡ opening (heldInput s)
+  pub begun-is : {u : Unfinished} → u ≡ firstState (heldInput s)
       → record { number = a .number; place = a .place; nodes = a .nodes; edges = a .edges; paths = a .paths; shapes = a .shapes; targets = a .targets; unfinished = u } ≡ begun s
   unfolding begun
   begun-is f = rw (← e, f)

@@ -8,12 +8,12 @@ ghost use mathlib.Core.Path.{_≡_};
 ghost use Prim.Native.Nat.{_≤_};
 ghost use lib.ListN.{length};
 ghost use Rattle.cases.specs.Reading.{reading};
-ghost use Rattle.semantics.specs.Unfinished.{begun, opened, opening, heldInput};
+ghost use Rattle.semantics.specs.Unfinished.{begun, firstStateWith, firstState, heldInput};
 
 // A state that has taken no round, of an input with so many pairs.
 fn open_input(input: &[u8], pairs: usize) -> Unfinished
     requires { ⌜ length (now input) ≤ 8192 ⌝ }
-    ensures { λ r. ⌜ r ≡ opened (now (input .entry)) pairs ⌝ }
+    ensures { λ r. ⌜ r ≡ firstStateWith (now (input .entry)) pairs ⌝ }
 {
     let mut held = [0u8; 8192];
     copy(input, &mut held);
@@ -29,7 +29,7 @@ fn open_input(input: &[u8], pairs: usize) -> Unfinished
 // The state that goes with what reading answers.
 fn start(case: &[u8], answer: Reading) -> Unfinished
     requires { ⌜ answer ≡ reading (now case) ⌝ }
-    ensures { λ r. ⌜ r ≡ opening (heldInput (now (case .entry))) ⌝ }
+    ensures { λ r. ⌜ r ≡ firstState (heldInput (now (case .entry))) ⌝ }
 {
     if answer.number != 0 {
         return open_input(b"\x01\x00\x00\xff", 0);
