@@ -29,7 +29,8 @@ use Rattle.cases.specs.Format.{formatOf, groupOf, widthOf, takenOf, numb
 use Rattle.cases.specs.Format.{edgeOf, pathRuleOf, shapeRuleOf, targetOf, commandOf, commandAt}
 use Rattle.cases.specs.Parts.{Part, PartRead, PartFault, PartIs, partAt, depthLimit}
 use Rattle.cases.specs.Reading.{headed, headingOf, headingProfile, unless, judged, stepAt, Progress, start, countsSoFar, Entry, Shape, Other, pass, Found, Fault, Good}
-use Rattle.cases.specs.Reading.{entryOf, plainFound, partFound, nestedFound, roomFor, roomy, roomyFound, parkable, laidFound, foundAt, Walked, refused, finish, isEndEntry, stepped, walk, walkedFrom, walked, profileOf, isReadingNumber}
+use Rattle.cases.specs.Reading.{entryOf, plainFound, partFound, nestedFound, roomFor, roomy, roomyFound, parkable, laidFound, foundAt}
+use Rattle.cases.specs.Reading.{Walked, refused, finish, isEndEntry, stepped, walk, walkedFrom, walked, profileOf, isReadingNumber}
 use Rattle.cases.specs.Sound.{pathByte, shapeByte}
 use Rattle.cases.proofs.Expansion.{ruled}
 use Rattle.cases.proofs.Opening.{shapeSound, bytes-at, ReadShows, part-shows}

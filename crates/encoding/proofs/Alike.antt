@@ -13,7 +13,8 @@ use Rattle.fixpoint.proofs.Lists.{by-test}
 use Rattle.cases.specs.declared.answers.Refusal.{Refusal}
 use Rattle.cases.specs.Case.{Case}
 use Rattle.cases.specs.Parts.{names}
-use Rattle.cases.specs.Reading.{headed, headingOf, noRefusal, countsSoFar, shapesNamed, Note, Progress, start, Entry, Shape, Other, pass, namedAt, Found, Fault, Good, stepAt, plainFound, nestedFound, roomy, roomyFound, laidFound, foundAt}
+use Rattle.cases.specs.Reading.{headed, headingOf, noRefusal, countsSoFar, shapesNamed, Note, Progress, start, Entry, Shape, Other, pass, namedAt}
+use Rattle.cases.specs.Reading.{Found, Fault, Good, stepAt, plainFound, nestedFound, roomy, roomyFound, laidFound, foundAt}
 use Rattle.cases.specs.Reading.{unknownShape, afterEnd, Walked, refused, finish, isEndEntry, stepped, walk, walkedFrom, walked, expanded, Outcome, outcome}
 use Rattle.cases.proofs.Steps.{GoodShows, found-shows}
 use Rattle.encoding.specs.Encoding.{encodeCase, encode, later, Writable}

@@ -33,8 +33,8 @@ use Rattle.cases.specs.Format.{formatOf, groupOf, widthOf, takenOf, numberAt, r
 use Rattle.cases.specs.Faults.{inOrder, withinLimit, laid, edgeThere, shapeNodesKnown, pathPathsEarlier, shapePathsEarlier, shapeLeastPositive}
 use Rattle.cases.specs.Parts.{Plain, names}
 use Rattle.cases.specs.Reading.{headingOf, headingProfile, judged, stepAt, noRefusal, Note, Progress, start, countsSoFar, add, shapesNamed, namedAt, Entry, Shape, Other, pass}
-use Rattle.cases.specs.Reading.{Found, Good, entryOf, roomFor, roomyFound, parkable, foundAt, unknownShape, afterEnd, Walked, refused, finish, isEnd, isEndEntry, stepped, walk, walkedFrom, walked, profileOf}
-use Rattle.cases.specs.Reading.{Outcome, expanded, outcome}
+use Rattle.cases.specs.Reading.{Found, Good, entryOf, roomFor, roomyFound, parkable, foundAt, unknownShape, afterEnd, Walked, refused, finish}
+use Rattle.cases.specs.Reading.{isEnd, isEndEntry, stepped, walk, walkedFrom, walked, profileOf, Outcome, expanded, outcome}
 use Rattle.cases.specs.Sound.{pathByte, shapeByte, OneByteEach}
 use Rattle.cases.proofs.Expansion.{ruled, expansion-passes, plain-length, plain-expansion}
 use Rattle.cases.proofs.Opening.{byte-blind}
@@ -433,7 +433,10 @@ module _ (profile : ℕ) (c : Case) (w : Writable profile c) where
         record {
           known = omega arith;
           is = λ l. found-edge l e code;
-          bytes = λ l. bytes-edge (c .nodes) e (omega (arith, nodes-at-most profile)) (⊎-elim (λ x. omega arith) (λ x. omega arith) code) (in-passes i (λ e. ltb (e .property .0) 256) (w .one-byte .edges)) ends;
+          bytes =
+              λ l.
+              bytes-edge (c .nodes) e (omega (arith, nodes-at-most profile)) (⊎-elim (λ x. omega arith) (λ x. omega arith) code)
+              (in-passes i (λ e. ltb (e .property .0) 256) (w .one-byte .edges)) ends;
           within = in-limit i (w .limited .edges-limited);
           passes = λ row taken. rw (in-limit i (w .limited .edges-limited), ends);
           there = edge-there prior e known;

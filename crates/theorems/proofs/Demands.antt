@@ -106,7 +106,8 @@ accepted-each c v l =
 
 -- checking refuses nothing exactly where the input reads, the tables are long enough and what they hold is accepted
 pub check-none : (s vt lt : List ℕ)
-    → (checkAnswer s vt lt .number ≡ 0) ↔ (Reads s × ((pairCount (caseOf s) ≤ length vt) × ((2 * pairCount (caseOf s) ≤ length lt) × (accepted (caseOf s) vt (levelsIn (pairCount (caseOf s)) lt) ≡ true))))
+    → (checkAnswer s vt lt .number ≡ 0)
+    ↔ (Reads s × ((pairCount (caseOf s) ≤ length vt) × ((2 * pairCount (caseOf s) ≤ length lt) × (accepted (caseOf s) vt (levelsIn (pairCount (caseOf s)) lt) ≡ true))))
 unfolding checkAnswer checked checkRefusal checkFault valueFault pairFault
 check-none s vt lt =
     let c = caseOf s in

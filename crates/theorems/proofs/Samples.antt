@@ -24,7 +24,8 @@ use Rattle.semantics.specs.Solving
 use Rattle.semantics.specs.Denial
 use Rattle.semantics.specs.Operations
 use Rattle.semantics.specs.OldCode
-use Rattle.theorems.specs.Samples.{OnlyStable, AllPass, lent, smallLevelBytes, afterSolving, afterRanking, ring, oneNode, clash, notItself, orItself, twoPaths, noFillers, nested, parked, vouched, starredSamples, requestedSamples}
+use Rattle.theorems.specs.Samples.{OnlyStable, AllPass, lent, smallLevelBytes, afterSolving, afterRanking}
+use Rattle.theorems.specs.Samples.{ring, oneNode, clash, notItself, orItself, twoPaths, noFillers, nested, parked, vouched, starredSamples, requestedSamples}
 
 -- a value that is 2 exactly if it is not at least 1 is 1
 only-one : (x : ℕ) → leb x 2 ≡ true → eqb x 2 ≡ not (leb 1 x) → x ≡ 1
@@ -63,7 +64,8 @@ unfolding starredSamples requestedSamples ring vouched oneNode clash notItself o
     Denial.nots Denial.refers Denial.ownDenial
     Operations.orElse Operations.firstOf Operations.refuseUnless Operations.refuse Operations.tooShort Operations.counted Operations.written
     Operations.tally Operations.levelBytes Operations.levelsIn Operations.caseOf Operations.solveRefusal Operations.solveFault Operations.solveAnswer Operations.solution
-    Operations.solveValues Operations.solveLevels Operations.solveVerdicts Operations.checkRefusal Operations.checkFault Operations.valueFault Operations.pairFault Operations.checkAnswer Operations.checked
+    Operations.solveValues Operations.solveLevels Operations.solveVerdicts
+    Operations.checkRefusal Operations.checkFault Operations.valueFault Operations.pairFault Operations.checkAnswer Operations.checked
     OldCode.oldFault OldCode.oldRefusal OldCode.oldAnswer
     Operations.rankRefusal Operations.rankFault Operations.denialFault Operations.rankAnswer Operations.ranked Operations.rankStrata
 samples = (
