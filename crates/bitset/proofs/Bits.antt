@@ -258,3 +258,20 @@ below-first {x} {n} {y} f = record { bits = λ i l. bit-and x y i ∙ ap (λ b. 
 
 pub below-all : {x n : ℕ} → 64 ≤ n → BitsBelow x n x
 below-all {x} {n} h = record { bits = λ i l. sym (and-true (bit x i)) ∙ ap (λ b. bit x i && b) (sym (lt-ltb i n (omega arith))) }
+
+-- ---- The bits in which two words differ
+
+digit-xor : (d e : ℕ) → d < 2 → e < 2 → eqb (bitXor d e) 1 ≡ cond (eqb e 1) (not (eqb d 1)) (eqb d 1)
+digit-xor zero zero h l = refl
+digit-xor zero (suc zero) h l = refl
+digit-xor zero (suc (suc e)) h l = absurd (omega arith)
+digit-xor (suc zero) zero h l = refl
+digit-xor (suc zero) (suc zero) h l = refl
+digit-xor (suc zero) (suc (suc e)) h l = absurd (omega arith)
+digit-xor (suc (suc d)) e h l = absurd (omega arith)
+
+pub bit-xor : (a b j : ℕ) → bit (bitXor a b) j ≡ cond (bit b j) (not (bit a j)) (bit a j)
+unfolding bit
+bit-xor a b j =
+    ap (λ x. eqb x 1) (ap (λ x. x % 2) (xor-shr a b j) ∙ xor-mod (a / 2 ^ j) (b / 2 ^ j) 1)
+    ∙ digit-xor (a / 2 ^ j % 2) (b / 2 ^ j % 2) (omega arith) (omega arith)

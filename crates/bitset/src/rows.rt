@@ -3,10 +3,10 @@ use crate::words::assign_bit;
 use crate::words::has_bit;
 ghost use mathlib.Core.Path.{_≡_};
 ghost use mathlib.Core.Bool.{_&&_, _||_, not, Bool·beq};
-ghost use Prim.Native.Nat.{_*_, _^_, _<_};
+ghost use Prim.Native.Nat.{_+_, _*_, _^_, _<_, _≤_};
 ghost use lib.ListN.{length};
 ghost use Rattle.fixpoint.specs.Lists.{upTo, all, count};
-ghost use Rattle.bitset.specs.Words.{member, HasRow, Inserted, Assigned, Joined, Cleared};
+ghost use Rattle.bitset.specs.Words.{member, HasRow, Inserted, Assigned, Joined, Cleared, WordsCopied, RowCopied, RowAdded};
 
 // Whether b is in row r.
 pub fn is_member(t: &[u64], w: usize, r: usize, b: usize) -> bool
@@ -86,15 +86,47 @@ pub fn clear(t: &mut [u64])
     }
 }
 
+// Makes n words of t from `at` on those of u from `from` on.
+pub fn copy_words(t: &mut [u64], at: usize, u: &[u64], from: usize, n: usize)
+    requires { ⌜ at + n ≤ length (now t) ⌝ }
+    requires { ⌜ from + n ≤ length (now u) ⌝ }
+    ensures { λ _. ⌜ WordsCopied (now (u .entry)) from at n (now (t .entry)) (now (t .exit)) ⌝ }
+{
+    let mut i = 0;
+    while i < n {
+        let word = u[from + i];
+        t[at + i] = word;
+        i += 1;
+    }
+}
+
 // Makes t the same table as u.
 pub fn copy(t: &mut [u64], u: &[u64])
     requires { ⌜ length (now t) ≡ length (now u) ⌝ }
     ensures { λ _. ⌜ now (t .exit) ≡ now (u .entry) ⌝ }
 {
+    copy_words(t, 0, u, 0, u.len());
+}
+
+// Makes row s of t row r of u.
+pub fn copy_row(t: &mut [u64], s: usize, u: &[u64], r: usize, w: usize)
+    requires { ⌜ HasRow (now t) w s ⌝ }
+    requires { ⌜ HasRow (now u) w r ⌝ }
+    ensures { λ _. ⌜ RowCopied (now (u .entry)) w r s (now (t .entry)) (now (t .exit)) ⌝ }
+{
+    copy_words(t, s * w, u, r * w, w);
+}
+
+// Adds row r of u to row s of t.
+pub fn join_row(t: &mut [u64], s: usize, u: &[u64], r: usize, w: usize)
+    requires { ⌜ HasRow (now t) w s ⌝ }
+    requires { ⌜ HasRow (now u) w r ⌝ }
+    ensures { λ _. ⌜ RowAdded (now (u .entry)) w r s (now (t .entry)) (now (t .exit)) ⌝ }
+{
     let mut i = 0;
-    while i < t.len() {
-        let word = u[i];
-        t[i] = word;
+    while i < w {
+        let word = t[s * w + i] | u[r * w + i];
+        t[s * w + i] = word;
         i += 1;
     }
 }

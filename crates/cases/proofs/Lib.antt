@@ -4,6 +4,7 @@ pub mod Profiles
 pub mod Steps
 pub mod Sound
 pub mod InRows
+pub mod PutRows
 pub mod Expansion
 pub mod Opening
 pub mod Operands

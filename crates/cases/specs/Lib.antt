@@ -8,3 +8,4 @@ pub mod Parts
 pub mod Reading
 pub mod Sound
 pub mod Rows
+pub mod Ruled

@@ -1,7 +1,7 @@
 -- The case that a table of rows and counts hold. No part of document 01: inner functions are stated with it. Assumes nothing.
 use Prim.Native.Nat.{ℕ, _+_, _*_, _≤_}
 use mathlib.Core.List.{List, map}
-use lib.ListN.{length, getD}
+use lib.ListN.{length, getD, set}
 use Rattle.fixpoint.specs.Lists.{upTo}
 use Rattle.cases.specs.declared.command.Edge.{Edge}
 use Rattle.cases.specs.declared.command.PathRule.{PathRule}
@@ -17,6 +17,10 @@ use Rattle.cases.specs.Sound.{Sound}
 -- row i of a table, four numbers a row
 abbrev pub rowIn : List ℕ → ℕ → Row
 rowIn t i = (getD t (4 * i) 0, getD t (4 * i + 1) 0, getD t (4 * i + 2) 0, getD t (4 * i + 3) 0)
+
+-- the table once row i is made this one
+unfoldable pub putRow : List ℕ → ℕ → Row → List ℕ
+putRow t i r = set (set (set (set t (4 * i) (r .0)) (4 * i + 1) (r .1)) (4 * i + 2) (r .2)) (4 * i + 3) (r .3)
 
 -- the table has all its rows: 1,036 for edges, 16 for paths, 32 for shapes and 256 for targets, in this order
 pub record Full (rows : List ℕ) : Type 0 where

@@ -8,4 +8,5 @@ pub mod heads;
 pub mod numbers;
 pub mod paths;
 pub mod rows;
+pub mod ruled;
 pub mod shape_operands;

@@ -11,7 +11,7 @@ use crate::numbers::Shape;
 ghost use mathlib.Core.Path.{_≡_};
 ghost use Prim.Native.Nat.{_+_, _*_, _<_, _≤_};
 ghost use lib.ListN.{length};
-ghost use Rattle.cases.specs.Rows.{rowIn, edgeIn, shapeIn, targetIn, Full};
+ghost use Rattle.cases.specs.Rows.{rowIn, putRow, edgeIn, shapeIn, targetIn, Full};
 
 // The first row of paths, shapes and targets; edges start at row 0, and there is room for 12 beyond the limit.
 pub const PATHS: usize = 1036;
@@ -27,6 +27,22 @@ pub fn row_in(rows: &[u16], i: usize) -> Row
 {
     let at = 4 * i;
     Row(rows[at], rows[at + 1], rows[at + 2], rows[at + 3])
+}
+
+// Makes row i this one.
+pub fn put_row(rows: &mut [u16], i: usize, row: Row)
+    requires { ⌜ 4 * i + 4 ≤ length (now rows) ⌝ }
+    ensures { λ _. ⌜ now (rows .exit) ≡ putRow (now (rows .entry)) i row ⌝ }
+{
+    let at = 4 * i;
+    let code = row.0;
+    let first = row.1;
+    let second = row.2;
+    let third = row.3;
+    rows[at] = code;
+    rows[at + 1] = first;
+    rows[at + 2] = second;
+    rows[at + 3] = third;
 }
 
 pub fn edge_in(rows: &[u16], i: usize) -> Edge

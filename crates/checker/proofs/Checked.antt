@@ -5,9 +5,8 @@ use mathlib.Core.Path.{_≡_, sym, ap, _∙_}
 use mathlib.Core.Logic.{_⊎_, inl, inr, ⊎-elim}
 use mathlib.Core.Bool.{cond}
 use mathlib.Core.List.{List}
-use lib.ListN.{length, getD}
 use lib.Dec.{eqb}
-use borrow.Author.Tests.{leb-true, ne-eqb}
+use borrow.Author.Tests.{ne-eqb}
 use Rattle.fixpoint.specs.Lists.{upTo}
 use Rattle.cases.specs.Reading.{noRefusal}
 use Rattle.cases.specs.Rows.{caseIn}
@@ -15,13 +14,11 @@ use Rattle.cases.specs.declared.answers.Refusal.{Refusal}
 use Rattle.cases.specs.declared.counts.Counts.{Counts}
 use Rattle.fillers.specs.CaseTables.{Tables}
 use Rattle.fillers.proofs.InTables.{pair-count}
-use Rattle.semantics.specs.Operations.{orElse, firstOf, refuse, levelsIn, valueFault, pairFault}
-use Rattle.semantics.specs.Values.{pairCount, byteSays, saidNumber, isValue, supportedAt}
-use Rattle.semantics.specs.declared.value.Said.{Said}
-use Rattle.semantics.proofs.Refusing.{zero-cases, orElse-next, orElse-this, unless-none, unless-place, refuse-none, first-refuses, Well, well-first, well-all, well-of}
-use Rattle.checker.specs.Sets.{Proposed}
-use Rattle.pairs.specs.Sets.{Threshold}
-use Rattle.checker.specs.Checking.{valueFaultIn, ProposedUnless, unsupported, LevelRoom, LevelsChecked}
+use Rattle.semantics.specs.Operations.{orElse, firstOf, levelsIn, pairFault}
+use Rattle.semantics.specs.Values.{pairCount, supportedAt}
+use Rattle.semantics.proofs.Refusing.{zero-cases, orElse-next, orElse-this, unless-none, unless-place, first-refuses, Well, well-first, well-all, well-of}
+use Rattle.support.specs.Proposals.{Proposed, unsupported}
+use Rattle.checker.specs.Justifying.{LevelsChecked}
 use Rattle.semantics.specs.OldCode.{supportFault}
 
 -- ---- Two passes for one
@@ -68,31 +65,6 @@ two-passes f g {n} {m} {u} p =
 
 -- ---- The faults of a proposal
 
--- 13 of a pair
-abbrev pub unvalued : List ℕ → ℕ → Refusal
-unvalued values k = refuse (saidNumber (byteSays (getD values k 0))) k
-
-pub unvalued-at : (values : List ℕ) (k : ℕ) {n : ℕ} {said : Said} {r : Refusal} → r ≡ refuse n k → said ≡ byteSays (getD values k 0) → n ≡ saidNumber said → r ≡ unvalued values k
-unvalued-at values k e f g = e ∙ ap (λ m. refuse m k) (g ∙ ap saidNumber f)
-
--- without a fault of 13 every number is a value
-pub proposed : {counts : Counts} {values valid possible : List ℕ} {r : Refusal} → Threshold counts values 2 valid → Threshold counts values 1 possible
-    → counts .shapes * counts .nodes ≤ length values → r ≡ valueFaultIn values (counts .shapes * counts .nodes) → ProposedUnless counts values valid possible r
-unfolding isValue
-proposed {values = values} v p l e = record {
-  fault = e;
-  proposed = λ z. record {
-    there = l;
-    valued = λ k h. leb-true (getD values k 0) 2 (refuse-none values k .0 (well-of (rw e at z) .each k h));
-    valid-set = v;
-    possible-set = p;
-  };
-}
-
-pub level-room : {counts : Counts} {values valid possible levels : List ℕ} → Proposed counts values valid possible → 2 * (counts .shapes * counts .nodes) ≤ length levels
-    → LevelRoom counts valid possible levels
-level-room p l = record { valid-there = p .valid-set .long; possible-there = p .possible-set .long; levels-there = l }
-
 module _ {counts : Counts} {rows sets : List ℕ} (t : Tables counts rows sets) (values : List ℕ) where
   -- the pass for 14 ends at its first refusal
   supported-ends : {m : ℕ} {u : Refusal} → u ≡ supportFault (caseIn counts rows) values → m ≡ cond (eqb (u .number) 0) (counts .shapes * counts .nodes) (u .place)
@@ -112,18 +84,6 @@ module _ {counts : Counts} {rows sets : List ℕ} (t : Tables counts rows sets) 
   pairs-checked {u = u} p f i g o =
       let ends = supported-ends f i in
       o
-      ∙ ap (λ y. orElse y u) (g .right values p (λ k h. unless-none (supportedAt (caseIn counts rows) values k) 14 k (omega arith) .0 (ends .well .each k h)))
+      ∙ ap (λ y. orElse y u) (g .right values (record { proposed = p; each = λ k h. unless-none (supportedAt (caseIn counts rows) values k) 14 k (omega arith) .0 (ends .well .each k h) }))
       ∙ two-passes (unsupported counts rows values) _ ends
       ∙ rw (← pair-count t)
-
-  -- 13 comes before it
-  module _ {valid possible : List ℕ} {r : Refusal} (p : ProposedUnless counts values valid possible r) where
-    value-fault-is : r ≡ valueFault (caseIn counts rows) values
-    unfolding valueFault
-    value-fault-is = p .fault ∙ ap (valueFaultIn values) (sym (pair-count t))
-
-    pub checked-first : (q : Refusal) → (r .number ≡ 0 → ⊥) → r ≡ orElse (valueFault (caseIn counts rows) values) q
-    checked-first q n = rw (← value-fault-is) (sym (orElse-this r q n))
-
-    pub checked-next : {o q : Refusal} → r .number ≡ 0 → o ≡ q → o ≡ orElse (valueFault (caseIn counts rows) values) q
-    checked-next {q = q} z f = f ∙ rw (← value-fault-is) (sym (orElse-next r q z))

@@ -18,7 +18,7 @@ use Rattle.bitset.specs.Words.{bit, member, HasRow, Inserted, Cleared, Without,
 use Rattle.bitset.proofs.Bits.{bit-zero, bit-and, bit-or, bit-high, bit-ones}
 use Rattle.bitset.proofs.Members.{rows-apart, member-word}
 use Rattle.cases.specs.declared.counts.Size.{Size}
-use Rattle.checker.specs.Sets.{levelAt}
+use Rattle.checker.specs.LevelRows.{levelAt}
 use Rattle.pairs.proofs.Raised.{one-more}
 use Rattle.checker.specs.Digits.{HasDigits, DigitsInserted, DigitsOf, LowerNext, SameNext, LowerIn}
 
@@ -79,7 +79,7 @@ digits-more {x} {n} h l e =
 
 -- ---- The levels of a shape: those of the nodes below a are there, none above `most`
 
-pub record FilledTo (levels : List ℕ) (size : Size) (s : ℕ) (o t : List ℕ) (most a : ℕ) : Type 0 where
+pub record DigitsFilledTo (levels : List ℕ) (size : Size) (s : ℕ) (o t : List ℕ) (most a : ℕ) : Type 0 where
   pub nodes : a ≤ size .nodes
   pub members : (k b : ℕ) → k < 64 → b < size .nodes → member t (size .words) k b ≡ (ltb b a && bit (levelAt levels (s * size .nodes + b)) k)
   pub greatest : (b : ℕ) → b < a → levelAt levels (s * size .nodes + b) ≤ most
@@ -87,8 +87,8 @@ pub record FilledTo (levels : List ℕ) (size : Size) (s : ℕ) (o t : List ℕ)
   pub long : length t ≡ length o
 
 module _ {levels : List ℕ} {size : Size} {s : ℕ} {o t : List ℕ} where
-  pub filled-none : Cleared o t → FilledTo levels size s t t 0 0
-  filled-none c = record {
+  pub digits-filled-none : Cleared o t → DigitsFilledTo levels size s t t 0 0
+  digits-filled-none c = record {
     nodes = omega arith;
     members = λ k b h m. c .members (size .words) k b ∙ rw (le-ltb b 0 (omega arith));
     greatest = λ b h. absurd (omega arith);
@@ -96,10 +96,10 @@ module _ {levels : List ℕ} {size : Size} {s : ℕ} {o t : List ℕ} where
     long = refl;
   }
 
-  module _ {most a : ℕ} (v : FilledTo levels size s o t most a) where
-    pub filled-more : {level most′ : ℕ} {t′ : List ℕ} → a < size .nodes → size .nodes ≤ 64 * size .words → level ≡ levelAt levels (s * size .nodes + a) → level < 65536
-        → DigitsInserted t (size .words) a level t′ → most ≤ most′ → level ≤ most′ → (most < 65536 → level < 65536 → most′ < 65536) → FilledTo levels size s o t′ most′ (a + 1)
-    filled-more {level} h wide e small i m l f = record {
+  module _ {most a : ℕ} (v : DigitsFilledTo levels size s o t most a) where
+    pub digits-filled-more : {level most′ : ℕ} {t′ : List ℕ} → a < size .nodes → size .nodes ≤ 64 * size .words → level ≡ levelAt levels (s * size .nodes + a) → level < 65536
+        → DigitsInserted t (size .words) a level t′ → most ≤ most′ → level ≤ most′ → (most < 65536 → level < 65536 → most′ < 65536) → DigitsFilledTo levels size s o t′ most′ (a + 1)
+    digits-filled-more {level} h wide e small i m l f = record {
       nodes = omega arith;
       members = λ k b g o.
           i .members k b g (omega arith) ∙ rw (v .members k b g o, e) (one-more (λ b. bit (levelAt levels (s * size .nodes + b)) k) b a);
@@ -112,8 +112,8 @@ module _ {levels : List ℕ} {size : Size} {s : ℕ} {o t : List ℕ} where
       long = i .long ∙ v .long;
     }
 
-    pub filled-done : {u : List ℕ} {used : ℕ} → Cleared u o → 16 * size .words ≤ length u → size .nodes ≤ a → used ≤ 16 → most / 2 ^ used ≡ 0 → DigitsOf levels size s t used
-    filled-done {used = used} c l h few none = record {
+    pub digits-filled-done : {u : List ℕ} {used : ℕ} → Cleared u o → 16 * size .words ≤ length u → size .nodes ≤ a → used ≤ 16 → most / 2 ^ used ≡ 0 → DigitsOf levels size s t used
+    digits-filled-done {used = used} c l h few none = record {
       few = few;
       there = omega (arith, v .long, c .long);
       each = λ b m. record {

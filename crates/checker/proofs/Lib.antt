@@ -1,9 +1,6 @@
--- The laws of sets by value and level, of levels by digits, of passes over pairs, of supported and of justified pairs.
-pub mod RulesThere
-pub mod Holding
+-- The laws of levels below a bound, of levels by digits, of justified pairs, of two passes for one and of the answer.
 pub mod Lowered
 pub mod InDigits
-pub mod Passing
-pub mod Supported
 pub mod Justified
 pub mod Checked
+pub mod Answered

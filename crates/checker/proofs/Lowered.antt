@@ -19,7 +19,7 @@ use Rattle.bitset.proofs.Bits.{bit-zero, bit-and, word-ext, ones-count}
 use Rattle.bitset.proofs.Members.{member-word, count-word}
 use Rattle.cases.specs.declared.counts.Size.{Size}
 use Rattle.checker.specs.Digits.{DigitsUnless, LowerIn}
-use Rattle.checker.specs.Sets.{levelAt, isLow, LevelRow, RowBelow, WordWhere}
+use Rattle.checker.specs.LevelRows.{levelAt, isLow, LevelRow, RowBelow, WordWhere}
 
 -- ---- The passing numbers of a word: those outside `rest` are sorted out
 
@@ -110,12 +110,12 @@ kept-if true b e = e
 kept-if false b e = refl
 
 module _ {test : ℕ → Bool} {sets : List ℕ} {row w : ℕ} where
-  pub passed-none : PassedTo test sets row w 0
-  passed-none = record { most = omega arith; each = λ b h. absurd (omega arith) }
+  pub row-passed-none : PassedTo test sets row w 0
+  row-passed-none = record { most = omega arith; each = λ b h. absurd (omega arith) }
 
   module _ {i passing : ℕ} (v : PassedTo test sets row w i) (h : i < w) (u : WordWhere test (getD sets (row * w + i) 0) i passing) where
-    pub passed-more : passing ≡ getD sets (row * w + i) 0 → PassedTo test sets row w (i + 1)
-    passed-more e = record {
+    pub row-passed-more : passing ≡ getD sets (row * w + i) 0 → PassedTo test sets row w (i + 1)
+    row-passed-more e = record {
       most = omega arith;
       each = λ b l.
           ⊎-elim
@@ -126,17 +126,17 @@ module _ {test : ℕ → Bool} {sets : List ℕ} {row w : ℕ} where
           (lt-cases b (64 * i));
     }
 
-    pub passed-not : passing < 2 ^ 64 → ((m : ℕ) → Fits w64 (getD sets m 0)) → (passing ≡ getD sets (row * w + i) 0 → ⊥)
+    pub row-passed-not : passing < 2 ^ 64 → ((m : ℕ) → Fits w64 (getD sets m 0)) → (passing ≡ getD sets (row * w + i) 0 → ⊥)
         → false ≡ all (upTo (64 * w)) (λ b. not (member sets w row b) || test b)
-    passed-not small there n =
+    row-passed-not small there n =
         ⊎-elim
         (λ e. absurd (n (word-ext 64 passing (getD sets (row * w + i) 0) small (there (row * w + i) .fits) (λ j l.
         u .bits j l ∙ kept-if _ _ (rw (member-word sets w row i j l) at (all-upTo-in (64 * w) (λ b. not (member sets w row b) || test b) e (64 * i + j) (omega arith)))))))
         sym
         (bool-cases (all (upTo (64 * w)) (λ b. not (member sets w row b) || test b)))
 
-  pub passed-done : {i : ℕ} → w ≤ i → PassedTo test sets row w i → true ≡ all (upTo (64 * w)) (λ b. not (member sets w row b) || test b)
-  passed-done h v = sym (all-upTo-of (64 * w) (λ b. not (member sets w row b) || test b) (λ b l. v .each b (omega arith)))
+  pub row-passed-done : {i : ℕ} → w ≤ i → PassedTo test sets row w i → true ≡ all (upTo (64 * w)) (λ b. not (member sets w row b) || test b)
+  row-passed-done h v = sym (all-upTo-of (64 * w) (λ b. not (member sets w row b) || test b) (λ b l. v .each b (omega arith)))
 
 -- ---- The numbers of a row that are in row s of a set and pass: n of them are in the first i words
 
@@ -170,7 +170,7 @@ module _ {test : ℕ → Bool} {sets : List ℕ} {row : ℕ} {set : List ℕ} {s
       omega (arith, v .right, v .most, count-le-length (upTo (64 * i)) (λ b. member sets w row b && (member set w s b && test b)), length-upTo (64 * i))
 
   -- and so fit a word
-  module _ {i n passing : ℕ} (narrow : w ≤ 8) (h : i < w) (u : WordWhere test (bitAnd (getD sets (row * w + i) 0) (getD set (s * w + i) 0)) i passing) (small : passing < 2 ^ 64)
+  module _ {i n passing : ℕ} (narrow : 64 * w < 2 ^ 64) (h : i < w) (u : WordWhere test (bitAnd (getD sets (row * w + i) 0) (getD set (s * w + i) 0)) i passing) (small : passing < 2 ^ 64)
       (v : PassingTo test sets row set s w i n) where
     pub passing-ones : Fits w64 (ones passing)
     passing-ones = record { fits = omega (arith, passing-few (passing-more h u small v)) }

@@ -2,16 +2,13 @@
 -- kept, and compared with a bound a word at a time. Assumes nothing.
 use Prim.Native.Nat.{ℕ, _*_, _/_, _+_, _^_, _<_, _≤_}
 use mathlib.Core.Path.{_≡_}
-use mathlib.Core.Bool.{Bool, true, cond, not, _&&_, _||_}
+use mathlib.Core.Bool.{Bool, cond, not, _&&_, _||_}
 use mathlib.Core.List.{List}
 use lib.ListN.{length}
 use lib.Dec.{eqb, ltb}
 use Rattle.bitset.specs.Words.{bit, member}
-use Rattle.cases.specs.Case.{references}
-use Rattle.cases.specs.declared.command.ShapeRule.{ShapeRule}
 use Rattle.cases.specs.declared.counts.Size.{Size}
-use Rattle.fixpoint.specs.Lists.{any}
-use Rattle.checker.specs.Sets.{levelAt}
+use Rattle.checker.specs.LevelRows.{levelAt}
 
 -- the first n rows have the digits of x at a, and x has no others
 pub record HasDigits (t : List ℕ) (w a n x : ℕ) : Type 0 where
@@ -32,10 +29,6 @@ pub record DigitsOf (levels : List ℕ) (size : Size) (s : ℕ) (digits : List �
 -- they do, or none is used
 pub record DigitsUnless (levels : List ℕ) (size : Size) (s : ℕ) (digits : List ℕ) (used : ℕ) : Type 0 where
   pub right : 0 < used → DigitsOf levels size s digits used
-
--- they do for each shape that a rule reads, or none is used
-pub record DigitsFit (r : ShapeRule) (size : Size) (levels digits : List ℕ) (used : ℕ) : Type 0 where
-  pub right : (s : ℕ) → any (references r) (λ q. eqb q s) ≡ true → DigitsUnless levels size s digits used
 
 -- the numbers of a word that are lower than the bound, by digits compared from the highest down: those that were lower, and those that were
 -- the same and have a 0 where the bound has a 1

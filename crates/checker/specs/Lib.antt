@@ -1,5 +1,5 @@
--- What checking answers, and what its parts ask and leave.
-pub mod Rules
-pub mod Sets
+-- Levels by pair and by digits, what is asked and found where 15 is looked for, and the first fault of a proposal.
+pub mod LevelRows
 pub mod Digits
-pub mod Checking
+pub mod Justifying
+pub mod Codes

@@ -1,44 +1,29 @@
-// The first fault of a proposed assignment: 13, then pair by pair 14 and, with levels, 15. Every pair is looked at for 14 first: 15 can then
-// only stand below the first 14, and the pairs there are supported. Without levels that is all.
+// The first fault of a proposal, and the answer that goes with it. Every pair is looked at for 14 first: 15 can then only stand below the first
+// 14, and the pairs there are supported.
 use crate::justification::level_fault;
-use crate::support::support_fault;
 use cases::answers::Refusal;
-use cases::answers::no_refusal;
 use cases::counts::Counts;
-use pairs::thresholds::fill;
+use fillers::table::is_small;
+use fillers::table::node_sets;
+use pairs::tallies::tally_of;
+use pairs::tallies::tally_targets;
+use semantics::answers::Checked;
 use semantics::refusals::or_else;
-use semantics::refusals::refuse;
 use semantics::value::Value;
+use support::proposing::check_support;
+use support::proposing::propose;
+use support::proposing::support_fault;
 ghost use mathlib.Core.Path.{_≡_};
 ghost use mathlib.Core.Bool.{cond};
 ghost use Prim.Native.Nat.{_*_, _≤_};
 ghost use lib.Dec.{eqb};
 ghost use lib.ListN.{length};
-ghost use Rattle.cases.specs.Counts.{wordsOf};
-ghost use Rattle.cases.specs.Rows.{caseIn};
+ghost use Rattle.cases.specs.Rows.{CaseIn, caseIn};
 ghost use Rattle.fillers.specs.CaseTables.{Tables};
-ghost use Rattle.semantics.specs.OldCode.{supportFault};
-ghost use Rattle.semantics.specs.Operations.{orElse, levelsIn, valueFault, pairFault};
+ghost use Rattle.semantics.specs.Operations.{orElse, levelsIn, valueFault, pairFault, checked};
 ghost use Rattle.semantics.specs.Values.{pairCount};
-ghost use Rattle.checker.specs.Sets.{Proposed};
-ghost use Rattle.checker.specs.Checking.{valueFaultIn, ProposedUnless};
-
-// 13: the first pair whose byte says no value. Those below k say one.
-pub fn value_fault(values: &[u8], pairs: usize) -> Refusal
-    requires { ⌜ pairs ≤ length (now values) ⌝ }
-    ensures { λ r. ⌜ r ≡ valueFaultIn (now (values .entry)) pairs ⌝ }
-{
-    let mut k = 0;
-    while k < pairs {
-        let said = Value::of_byte(values[k]);
-        let fault = refuse(Value::refusal_number(said), k);
-        if fault.number != 0 {
-            return fault;
-        }
-        k += 1;
-    }
-    no_refusal()
-}
+ghost use Rattle.support.specs.Proposals.{Proposed};
+ghost use Rattle.checker.specs.Codes.{levelsNeeded, proposalFault};
 
 // How many pairs are supported before the first that isn't.
 fn supported_pairs(pairs: usize, unsupported: Refusal) -> usize
@@ -72,43 +57,8 @@ fn pair_fault(
     or_else(unjustified, unsupported)
 }
 
-// 13; and where there is none, the sets are those of the valid and of the possible pairs.
-fn propose(counts: Counts, values: &[u8], valid: &mut [u64], possible: &mut [u64]) -> Refusal
-    requires { ⌜ counts .nodes ≤ 64 * wordsOf counts ⌝ }
-    requires { ⌜ counts .shapes * wordsOf counts ≤ 64 ⌝ }
-    requires { ⌜ counts .shapes * counts .nodes ≤ length (now values) ⌝ }
-    requires { ⌜ 64 ≤ length (now valid) ⌝ }
-    requires { ⌜ 64 ≤ length (now possible) ⌝ }
-    ensures { λ r. ⌜ ProposedUnless counts (now (values .entry)) (now (valid .exit)) (now (possible .exit)) r ⌝ }
-{
-    fill(counts, values, Value::VALID, valid);
-    fill(counts, values, Value::OPEN, possible);
-    value_fault(values, counts.shapes * counts.nodes)
-}
-
-// The first fault of the proposed values, without levels, number 0 for none.
-pub fn check_support(counts: Counts, rows: &[u16], sets: &[u64], values: &[u8]) -> Refusal
-    requires { ⌜ Tables counts (now rows) (now sets) ⌝ }
-    requires { ⌜ counts .shapes * counts .nodes ≤ length (now values) ⌝ }
-    ensures { λ r. ⌜ r ≡ orElse (valueFault (caseIn counts (now (rows .entry))) (now (values .entry))) (supportFault (caseIn counts (now (rows .entry))) (now (values .entry))) ⌝ }
-{
-    let mut valid = [0u64; 64];
-    let mut possible = [0u64; 64];
-    let fault = propose(counts, values, &mut valid, &mut possible);
-    if fault.number != 0 {
-        return fault;
-    }
-    support_fault(counts, rows, sets, values, &valid, &possible)
-}
-
 // The first fault of the proposed values and levels, number 0 for none.
-pub fn check_pairs(
-    counts: Counts,
-    rows: &[u16],
-    sets: &[u64],
-    values: &[u8],
-    levels: &[u8],
-) -> Refusal
+fn check_pairs(counts: Counts, rows: &[u16], sets: &[u64], values: &[u8], levels: &[u8]) -> Refusal
     requires { ⌜ Tables counts (now rows) (now sets) ⌝ }
     requires { ⌜ counts .shapes * counts .nodes ≤ length (now values) ⌝ }
     requires { ⌜ 2 * (counts .shapes * counts .nodes) ≤ length (now levels) ⌝ }
@@ -121,4 +71,87 @@ pub fn check_pairs(
         return fault;
     }
     pair_fault(counts, rows, sets, values, &valid, &possible, levels)
+}
+
+// The code that a proposal is checked under. The older one takes a supported assignment without levels, and reads none.
+pub enum Code {
+    Older,
+    Newer,
+}
+
+// The first fault of a proposal for the case in the tables.
+fn fault_in(
+    code: Code,
+    counts: Counts,
+    rows: &[u16],
+    sets: &[u64],
+    values: &[u8],
+    levels: &[u8],
+) -> Refusal
+    requires { ⌜ Tables counts (now rows) (now sets) ⌝ }
+    requires { ⌜ counts .shapes * counts .nodes ≤ length (now values) ⌝ }
+    requires { ⌜ levelsNeeded code counts ≤ length (now levels) ⌝ }
+    ensures { λ r. ⌜ r ≡ proposalFault code (caseIn counts (now (rows .entry))) (now (values .entry)) (now (levels .entry)) ⌝ }
+{
+    match code {
+        Code::Older => check_support(counts, rows, sets, values),
+        Code::Newer => check_pairs(counts, rows, sets, values, levels),
+    }
+}
+
+// The first fault of a proposal for the case in the rows: its sets of nodes are made in a table that has room for them.
+pub fn proposal_fault(
+    code: Code,
+    counts: Counts,
+    rows: &[u16],
+    values: &[u8],
+    levels: &[u8],
+) -> Refusal
+    requires { ⌜ CaseIn counts (now rows) ⌝ }
+    requires { ⌜ counts .shapes * counts .nodes ≤ length (now values) ⌝ }
+    requires { ⌜ levelsNeeded code counts ≤ length (now levels) ⌝ }
+    ensures { λ r. ⌜ r ≡ proposalFault code (caseIn counts (now (rows .entry))) (now (values .entry)) (now (levels .entry)) ⌝ }
+{
+    if is_small(counts) {
+        let mut small = [0u64; 4104];
+        node_sets(counts, rows, &mut small);
+        return fault_in(code, counts, rows, &small, values, levels);
+    }
+    let mut wide = [0u64; 65544];
+    node_sets(counts, rows, &mut wide);
+    fault_in(code, counts, rows, &wide, values, levels)
+}
+
+// The answer that goes with a fault of the proposed values, or with none.
+fn answer(counts: Counts, rows: &[u16], values: &[u8], fault: Refusal) -> Checked
+    requires { ⌜ CaseIn counts (now rows) ⌝ }
+    requires { ⌜ counts .shapes * counts .nodes ≤ length (now values) ⌝ }
+    ensures { λ r. ⌜ r ≡ checked fault (caseIn counts (now (rows .entry))) (now (values .entry)) ⌝ }
+{
+    if fault.number != 0 {
+        return Checked::refused(fault);
+    }
+    Checked {
+        number: fault.number,
+        place: fault.place,
+        undetermined: tally_of(values, counts.shapes * counts.nodes, Value::OPEN),
+        valid: tally_targets(counts, rows, values, Value::VALID),
+    }
+}
+
+// Checks a proposal for the case in the rows.
+pub fn check_proposal(
+    code: Code,
+    counts: Counts,
+    rows: &[u16],
+    values: &[u8],
+    levels: &[u8],
+) -> Checked
+    requires { ⌜ CaseIn counts (now rows) ⌝ }
+    requires { ⌜ counts .shapes * counts .nodes ≤ length (now values) ⌝ }
+    requires { ⌜ levelsNeeded code counts ≤ length (now levels) ⌝ }
+    ensures { λ r. ⌜ r ≡ checked (proposalFault code (caseIn counts (now (rows .entry))) (now (values .entry)) (now (levels .entry))) (caseIn counts (now (rows .entry))) (now (values .entry)) ⌝ }
+{
+    let fault = proposal_fault(code, counts, rows, values, levels);
+    answer(counts, rows, values, fault)
 }

@@ -10,7 +10,7 @@ use cases::numbers::Shape;
 ghost use mathlib.Core.Path.{_≡_};
 ghost use Prim.Native.Nat.{_+_, _*_, _/_, _^_, _<_, _≤_};
 ghost use lib.ListN.{length};
-ghost use Rattle.checker.specs.Sets.{levelAt, LevelRow};
+ghost use Rattle.checker.specs.LevelRows.{levelAt, LevelRow};
 ghost use Rattle.checker.specs.Digits.{DigitsInserted, DigitsOf, LowerNext, SameNext, LowerIn};
 
 fn wide(byte: u8) -> usize

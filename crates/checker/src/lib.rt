@@ -1,5 +1,5 @@
-// Checking: whether a proposed assignment with levels is accepted, pair by pair.
+// Checking a proposal under either code: 15 beside 13 and 14 of `support`, and the answer.
 pub mod checking;
 pub mod digits;
 pub mod justification;
-pub mod support;
+pub mod low_levels;

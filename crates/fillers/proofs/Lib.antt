@@ -1,7 +1,4 @@
--- The laws of sets of paths, of what is gathered from the edges, of the paths worked out one from the other, of the whole table and of the
--- converse; and the law that users of a case's tables start from.
-pub mod PathSets
-pub mod Gathering
+-- The laws of the paths worked out one from the other, of the whole table and of the converse; and the law that users of a case's tables start from.
 pub mod Filling
 pub mod Making
 pub mod Turning

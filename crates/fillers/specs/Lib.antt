@@ -2,6 +2,4 @@
 pub mod NodeSets
 pub mod Converse
 pub mod CaseTables
-pub mod Wanted
-pub mod Edges
 pub mod Filling

@@ -147,7 +147,8 @@ module _ {part : List ℕ} {at : ℕ} {reached : Reached} {fresh named : List �
   nested-disordered o n z = rw z (record { found = refused-is (omega (arith, room .few)) refl refl (λ p h. rw (h .last-is, failed o n)) })
 
   module _ {b : Bool} (o : b ≡ inOrder (reached .last) 4) (n : not b ≡ false) where
-    pub nested-full : {limit : ℕ} → limit ≡ shapeLimit (reached .profile) → limit ≤ reached .counts .shapes → {r : Finding} → r ≡ refusedFinding 4 reached → NestedAs part at reached fresh named r fresh named
+    pub nested-full : {limit : ℕ} → limit ≡ shapeLimit (reached .profile) → limit ≤ reached .counts .shapes → {r : Finding} → r ≡ refusedFinding 4 reached
+        → NestedAs part at reached fresh named r fresh named
     unfolding nestedFound countsSoFar
     nested-full l f z = rw z (record {
       found = refused-is (omega (arith, room .few)) refl refl

@@ -25,8 +25,8 @@ module _ {r : References} {n : ℕ} {t : List ℕ} where
   pub room-two : {s q : Shape} → r ≡ Two s q → NoteRoom (listed r) n t → 2 * n + 2 ≤ length t
   room-two e h = let f = rw e at (h .fits) in omega arith
 
-  pub room-second : {s q : Shape} {place n₁ a : ℕ} {t₁ : List ℕ} → r ≡ Two s q → NoteRoom (listed r) n t → Noted (a ∷ []) place n t n₁ t₁ → 2 * n₁ + 2 ≤ length t₁
-  room-second e h u = let f = rw e at (h .fits) in omega (arith, u .counted, u .long)
+  pub note-room-second : {s q : Shape} {place n₁ a : ℕ} {t₁ : List ℕ} → r ≡ Two s q → NoteRoom (listed r) n t → Noted (a ∷ []) place n t n₁ t₁ → 2 * n₁ + 2 ≤ length t₁
+  note-room-second e h u = let f = rw e at (h .fits) in omega (arith, u .counted, u .long)
 
   module _ {place n′ : ℕ} {t′ : List ℕ} where
     pub noted-of-one : {s : Shape} → r ≡ One s → Noted (s .0 ∷ []) place n t n′ t′ → Noted (listed r) place n t n′ t′

@@ -1,44 +1,40 @@
--- Checking: its refusal is that of the definition, and so are its counts. Assumes nothing.
+-- Checking: its refusal is that of the definition, and so is its answer. Assumes nothing.
 use Prim.Native.Nat.{ℕ, _*_, _≤_}
 use native.Mathlib.Omega.{arith}
 use mathlib.Core.Path.{_≡_, sym, ap, ap₂, _∙_}
 use mathlib.Core.Bool.{true}
 use mathlib.Core.List.{List}
-use lib.ListN.{length, take}
+use lib.ListN.{length}
 use lib.Dec.{leb}
-use borrow.Author.Tests.{ne-eqb, leb-true}
-use Rattle.cases.specs.Case.{Case}
+use borrow.Author.Tests.{leb-true}
 use Rattle.cases.specs.Rows.{caseIn}
 use Rattle.cases.specs.declared.answers.Parsed.{Parsed}
 use Rattle.cases.specs.declared.answers.Refusal.{Refusal}
-use Rattle.cases.specs.declared.counts.Counts.{Counts}
 use Rattle.reader.specs.Parsing.{ParsedAs}
 use Rattle.semantics.specs.declared.answers.Checked.{Checked}
-use Rattle.semantics.specs.Operations.{orElse, tooShort, counted, tally, caseOf, checkFault, checkRefusal, checked, checkAnswer}
-use Rattle.semantics.specs.Solving.{targetValues}
+use Rattle.semantics.specs.Operations.{orElse, tooShort, caseOf, checkFault, checkRefusal, checked, checkAnswer}
 use Rattle.semantics.specs.Values.{pairCount}
 use Rattle.semantics.proofs.Refusing.{orElse-next, orElse-this, orElse-none, orElse-assoc, unless-none}
-use Rattle.judge.specs.Checked.{shortCheck, proposalFault}
-use Rattle.semantics.specs.Refused.{refusedChecked}
-use Rattle.judge.proofs.Parsed.{parsed-refusal, parsed-case, pairs-in}
-
--- a refusal's answer
-pub refused-is : (r : Refusal) (c : Case) (values : List ℕ) → (r .number ≡ 0 → ⊥) → refusedChecked r ≡ checked r c values
-unfolding checked counted
-refused-is r c values some = rw (ne-eqb (r .number) 0 some)
+use Rattle.checker.specs.Codes.{proposalFault}
+use Rattle.checker.specs.declared.checking.Code.the-variants.{Newer}
+use Rattle.checker.proofs.Answered.{refused-is}
+use Rattle.judge.specs.Checked.{shortCheck}
+use Rattle.semantics.specs.Answered.{refusedChecked}
+use Rattle.pairs.proofs.Answered.{pairs-in}
+use Rattle.judge.proofs.Parsed.{parsed-refusal, parsed-case}
 
 module _ {s : List ℕ} {p : Parsed} {rows : List ℕ} (values levels : List ℕ) {short r : Refusal} (h : ParsedAs s p rows)
     (q : short ≡ shortCheck (p .counts) (length values) (length levels)) (e : r ≡ orElse (p .refusal) short) where
   -- its own part comes after what reading and the lengths refuse
-  refusal-is : checkRefusal s values levels ≡ orElse r (proposalFault (caseIn (p .counts) rows) values levels)
-  unfolding checkRefusal checkFault tooShort
+  refusal-is : checkRefusal s values levels ≡ orElse r (proposalFault Newer (caseIn (p .counts) rows) values levels)
+  unfolding checkRefusal checkFault tooShort proposalFault
   refusal-is =
       let c = caseIn (p .counts) rows in
       let values-short = tooShort 10 (pairCount c) values in
       let levels-short = tooShort 11 (2 * pairCount c) levels in
       rw (← parsed-refusal h, ← parsed-case h, e, q, ← pairs-in (p .counts) rows)
-      (sym (orElse-assoc (p .refusal) (orElse values-short levels-short) (proposalFault c values levels)
-      ∙ ap (orElse (p .refusal)) (orElse-assoc values-short levels-short (proposalFault c values levels))))
+      (sym (orElse-assoc (p .refusal) (orElse values-short levels-short) (proposalFault Newer c values levels)
+      ∙ ap (orElse (p .refusal)) (orElse-assoc values-short levels-short (proposalFault Newer c values levels))))
 
   pub check-refused : {a : Checked} → (r .number ≡ 0 → ⊥) → a ≡ refusedChecked r → a ≡ checkAnswer s values levels
   unfolding checkAnswer
@@ -52,25 +48,12 @@ module _ {s : List ℕ} {p : Parsed} {rows : List ℕ} (values levels : List ℕ
         (unless-none (leb (2 * (p .counts .shapes * p .counts .nodes)) (length levels)) 11 _ (omega arith))) .0
         (rw (e, q) at none)
 
-    pub values-there : p .counts .shapes * p .counts .nodes ≤ length values
-    values-there = leb-true _ _ (passed .1 .0)
+    pub check-values-there : p .counts .shapes * p .counts .nodes ≤ length values
+    check-values-there = leb-true _ _ (passed .1 .0)
 
-    pub levels-there : 2 * (p .counts .shapes * p .counts .nodes) ≤ length levels
-    levels-there = leb-true _ _ (passed .1 .1)
+    pub check-levels-there : 2 * (p .counts .shapes * p .counts .nodes) ≤ length levels
+    check-levels-there = leb-true _ _ (passed .1 .1)
 
-    pub check-read : {a : Checked} → a ≡ checked (proposalFault (caseIn (p .counts) rows) values levels) (caseIn (p .counts) rows) values → a ≡ checkAnswer s values levels
+    pub check-read : {a : Checked} → a ≡ checked (proposalFault Newer (caseIn (p .counts) rows) values levels) (caseIn (p .counts) rows) values → a ≡ checkAnswer s values levels
     unfolding checkAnswer
     check-read f = f ∙ ap₂ (λ o c. checked o c values) (sym (refusal-is ∙ orElse-next r _ none)) (parsed-case h)
-
--- A case that was read: the fault decides, or the counts are those of the proposal
-module _ (counts : Counts) (rows values : List ℕ) {fault : Refusal} where
-  pub answer-refused : {a : Checked} → (fault .number ≡ 0 → ⊥) → a ≡ refusedChecked fault → a ≡ checked fault (caseIn counts rows) values
-  answer-refused some f = f ∙ refused-is fault (caseIn counts rows) values some
-
-  pub answer-accepted : {u v : ℕ} → fault .number ≡ 0 → u ≡ tally 1 (take (counts .shapes * counts .nodes) values) → v ≡ tally 2 (targetValues (caseIn counts rows) values)
-      → record { number = fault .number; place = fault .place; undetermined = u; valid = v } ≡ checked fault (caseIn counts rows) values
-  unfolding checked counted
-  answer-accepted z f g = rw (f, g, z, pairs-in counts rows)
-
-  pub answered : {found : Refusal} {a : Checked} → fault ≡ found → a ≡ checked fault (caseIn counts rows) values → a ≡ checked found (caseIn counts rows) values
-  answered e f = rw e at f

@@ -20,11 +20,11 @@ use Rattle.semantics.proofs.Refusing.{orElse-next, orElse-this, orElse-none, or
 use Rattle.strata.specs.Ranks.{RankedAs}
 use Rattle.strata.specs.declared.ranks.Ranks.{Ranks}
 use Rattle.judge.specs.Ranked.{CaseRanked}
-use Rattle.semantics.specs.Refused.{rankedBy}
+use Rattle.semantics.specs.Answered.{rankedBy}
 use Rattle.judge.proofs.Parsed.{parsed-refusal, parsed-case}
 
-pub shapes-there : {counts : Counts} {rows : List ℕ} → CaseIn counts rows → ShapesIn counts rows
-shapes-there {counts} {rows} h = shapes-of (h .sound) (shapes-in counts rows) (shape-rule-in counts rows) (h .fit .shapes-fit) (h .full)
+pub ranked-shapes-there : {counts : Counts} {rows : List ℕ} → CaseIn counts rows → ShapesIn counts rows
+ranked-shapes-there {counts} {rows} h = shapes-of (h .sound) (shapes-in counts rows) (shape-rule-in counts rows) (h .fit .shapes-fit) (h .full)
 
 module _ {s : List ℕ} {p : Parsed} {rows : List ℕ} (table : List ℕ) {short r : Refusal} (h : ParsedAs s p rows)
     (q : short ≡ refuseUnless (leb (p .counts .shapes) (length table)) 16 (p .counts .shapes)) (e : r ≡ orElse (p .refusal) short) where

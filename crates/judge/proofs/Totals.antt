@@ -9,7 +9,7 @@ use lib.Dec.{eqb, ltb}
 use borrow.Author.Tests.{ne-eqb, ltb-true}
 use Rattle.cases.specs.Counts.{wordsOf}
 use Rattle.cases.specs.Reading.{noRefusal}
-use Rattle.cases.specs.Rows.{caseIn}
+use Rattle.cases.specs.Rows.{caseIn, CaseIn}
 use Rattle.cases.specs.declared.answers.Parsed.{Parsed}
 use Rattle.cases.specs.declared.answers.Refusal.{Refusal}
 use Rattle.cases.specs.declared.counts.Counts.{Counts}
@@ -24,9 +24,10 @@ use Rattle.semantics.specs.Totals.{nodeTally, totalsFault, totalsRefusal, total
 use Rattle.semantics.specs.Values.{pairOf, entryAt}
 use Rattle.semantics.proofs.Refusing.{orElse-none, unless-none}
 use Rattle.solver.specs.Rounding.{SetsSolved}
-use Rattle.pairs.specs.Values.{nodeValues}
+use Rattle.pairs.specs.Values.{nodeValues, nodeTotals}
+use Rattle.pairs.proofs.Answered.{values-by}
 use Rattle.pairs.proofs.Valued.{node-values-are}
-use Rattle.semantics.specs.Refused.{refusedTotals}
+use Rattle.semantics.specs.Answered.{refusedTotals}
 use Rattle.judge.proofs.Parsed.{parsed-refusal, parsed-case}
 use Rattle.judge.proofs.Solves.{values-solved}
 
@@ -59,19 +60,17 @@ module _ {s : List ℕ} {p : Parsed} {rows : List ℕ} (node : ℕ) {unknown r :
     totals-read f = rw (← refusal-is, well, ← parsed-case h) f
 
 -- A case that was read: the node's pairs are counted off the solved sets
-module _ (counts : Counts) (rows valid possible : List ℕ) {answer : ℕ} (k : SetsSolved (caseIn counts rows) (wordsOf counts) valid possible answer)
-    (node : ℕ) (known : node < counts .nodes) where
-  tally-is : (v : ℕ) {m : ℕ} → m ≡ tally v (nodeValues counts node valid possible) → m ≡ nodeTally v (caseIn counts rows) node
+module _ {counts : Counts} {rows valid possible : List ℕ} (h : CaseIn counts rows) {rounds : ℕ} (k : SetsSolved (caseIn counts rows) (wordsOf counts) valid possible rounds)
+    {node : ℕ} (known : node < counts .nodes) where
+  tally-is : (v : ℕ) → tally v (nodeValues counts node valid possible) ≡ nodeTally v (caseIn counts rows) node
   unfolding nodeTally entryAt pairOf tally
-  tally-is v f =
+  tally-is v =
       let c = caseIn counts rows in
       let solved : List ℕ = solvedValues c in
-      f
-      ∙ rw (node-values-are counts node valid possible known, values-solved counts rows k)
+      rw (node-values-are counts node valid possible known, values-by counts rows valid possible, values-solved counts rows k)
       (count-map (λ s. getD solved (s * counts .nodes + node) 0) (upTo (counts .shapes)) (λ x. eqb x v))
       ∙ ap₂ (λ m n. count (upTo m) (λ s. eqb (getD solved (s * n + node) 0) v)) (sym (shapes-in counts rows)) (sym (nodes-in counts rows))
 
-  pub node-totalled : {m n : ℕ} → m ≡ tally 2 (nodeValues counts node valid possible) → n ≡ tally 1 (nodeValues counts node valid possible)
-      → record { number = 0; place = 0; valid = m; undetermined = n } ≡ totals noRefusal (caseIn counts rows) node
+  pub node-totalled : {r : Totals} → r ≡ nodeTotals counts node valid possible → r ≡ totals noRefusal (caseIn counts rows) node
   unfolding totals counted
-  node-totalled f g = rw (tally-is 2 f, tally-is 1 g)
+  node-totalled e = e ∙ rw (tally-is 2, tally-is 1)

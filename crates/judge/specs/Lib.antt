@@ -2,4 +2,3 @@
 pub mod Solved
 pub mod Checked
 pub mod Ranked
-pub mod Supported

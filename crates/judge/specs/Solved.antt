@@ -10,7 +10,7 @@ use Rattle.cases.specs.Reading.{noRefusal}
 use Rattle.cases.specs.declared.answers.Refusal.{Refusal}
 use Rattle.cases.specs.declared.counts.Counts.{Counts}
 use Rattle.semantics.specs.declared.answers.Solution.{Solution}
-use Rattle.semantics.specs.Solving.{rounds, solvedValues, solvedLevels}
+use Rattle.semantics.specs.Solving.{solvedValues, solvedLevels}
 use Rattle.semantics.specs.Solving.{verdicts as verdictsOf}
 use Rattle.semantics.specs.Operations.{orElse, refuseUnless, written, levelBytes, solution, solveAnswer, solveValues, solveLevels, solveVerdicts}
 
@@ -43,15 +43,8 @@ pub record SolveRoom (counts : Counts) (values levels verdicts : List ℕ) : Typ
   pub verdict-room : counts .targets ≤ length verdicts
 
 -- then nothing is refused: the tables begin with what solving writes, and the answer counts it
-pub record AssignmentWritten (c : Case) (values levels : List ℕ) (answer : ℕ) (values′ levels′ : List ℕ) : Type 0 where
-  pub counted : answer ≡ rounds c
-  pub values-left : values′ ≡ written noRefusal (solvedValues c) values
-  pub levels-left : levels′ ≡ written noRefusal (levelBytes (solvedLevels c)) levels
-
-pub record TablesWritten (c : Case) (values levels verdicts : List ℕ) (answer : ℕ) (values′ levels′ verdicts′ : List ℕ) : Type 0 where
-  pub assignment : AssignmentWritten c values levels answer values′ levels′
-  pub verdicts-left : verdicts′ ≡ written noRefusal (verdictsOf c) verdicts
-
 pub record CaseSolved (c : Case) (values levels verdicts : List ℕ) (r : Solution) (values′ levels′ verdicts′ : List ℕ) : Type 0 where
   pub answer : r ≡ solution noRefusal c
-  pub tables : TablesWritten c values levels verdicts (r .rounds) values′ levels′ verdicts′
+  pub values-left : values′ ≡ written noRefusal (solvedValues c) values
+  pub levels-left : levels′ ≡ written noRefusal (levelBytes (solvedLevels c)) levels
+  pub verdicts-left : verdicts′ ≡ written noRefusal (verdictsOf c) verdicts

@@ -48,14 +48,14 @@ module _ {counts : Counts} {rows : List ℕ} {i : ℕ} (r : CaseIn counts rows) 
     unfolding targetPair
     pair-is = rw e
 
-    pub row-fits : Fits w64 (target .shape .0 * counts .nodes)
-    row-fits = omega (arith, pair-is, pair-below, r .fit)
+    pub target-row-fits : Fits w64 (target .shape .0 * counts .nodes)
+    target-row-fits = omega (arith, pair-is, pair-below, r .fit)
 
     pub pair-fits : Fits w64 (target .shape .0 * counts .nodes + target .node .0)
     pair-fits = omega (arith, pair-is, pair-below, r .fit)
 
-    pub pair-in : (values : List ℕ) → counts .shapes * counts .nodes ≤ length values → target .shape .0 * counts .nodes + target .node .0 < length values
-    pair-in values room = omega (arith, pair-is, pair-below)
+    pub target-pair-in : (values : List ℕ) → counts .shapes * counts .nodes ≤ length values → target .shape .0 * counts .nodes + target .node .0 < length values
+    target-pair-in values room = omega (arith, pair-is, pair-below)
 
     pub pair-value : (values : List ℕ) → getD values (target .shape .0 * counts .nodes + target .node .0) 0 ≡ getD values (targetPair counts rows i) 0
     pair-value values = rw pair-is

@@ -33,8 +33,8 @@ pub record RowTo (size : Size) (valid possible : List ℕ) (s a : ℕ) (t t′ :
   pub put : Put (valueIn size valid possible) (s * size .nodes) (s * size .nodes + a) t t′
 
 module _ {size : Size} {valid possible : List ℕ} {s : ℕ} {t : List ℕ} where
-  pub row-none : RowTo size valid possible s 0 t t
-  row-none = record { most = omega arith; put = put-none (omega arith) }
+  pub row-to-none : RowTo size valid possible s 0 t t
+  row-to-none = record { most = omega arith; put = put-none (omega arith) }
 
   module _ {a : ℕ} {t′ : List ℕ} where
     pub row-more : (x : ℕ) → RowTo size valid possible s a t t′ → x ≡ valueIn size valid possible (s * size .nodes + a)
@@ -61,25 +61,25 @@ module _ {counts : Counts} {size : Size} (e : size ≡ sizeOf counts) (fit : Fit
   node-there h = rw e h
 
   module _ {s : ℕ} (h : s < counts .shapes) where
-    pub row-there : {t : List ℕ} → 64 ≤ length t → HasRow t (size .words) s
-    row-there l = rw e (record { fits = omega (arith, rows-apart (wordsOf counts) s (counts .shapes) h, fit) })
+    pub set-row-there : {t : List ℕ} → 64 ≤ length t → HasRow t (size .words) s
+    set-row-there l = rw e (record { fits = omega (arith, rows-apart (wordsOf counts) s (counts .shapes) h, fit) })
 
-    pub row-room : {valid possible t t′ : List ℕ} → counts .shapes * counts .nodes ≤ length t → RowsTo counts valid possible s t t′ → s * size .nodes + size .nodes ≤ length t′
-    row-room l r = rw e (omega (arith, rows-apart (counts .nodes) s (counts .shapes) h, r .put .long))
+    pub values-row-room : {valid possible t t′ : List ℕ} → counts .shapes * counts .nodes ≤ length t → RowsTo counts valid possible s t t′ → s * size .nodes + size .nodes ≤ length t′
+    values-row-room l r = rw e (omega (arith, rows-apart (counts .nodes) s (counts .shapes) h, r .put .long))
 
 module _ {counts : Counts} {valid possible t : List ℕ} where
-  pub rows-none : RowsTo counts valid possible 0 t t
-  rows-none = record { most = omega arith; put = put-none (omega arith) }
+  pub values-rows-none : RowsTo counts valid possible 0 t t
+  values-rows-none = record { most = omega arith; put = put-none (omega arith) }
 
   module _ {s : ℕ} {t′ : List ℕ} where
-    pub rows-more : {size : Size} {t″ : List ℕ} → s < counts .shapes → size ≡ sizeOf counts → RowsTo counts valid possible s t t′
+    pub values-rows-more : {size : Size} {t″ : List ℕ} → s < counts .shapes → size ≡ sizeOf counts → RowsTo counts valid possible s t t′
         → Put (valueIn size valid possible) (s * size .nodes) (s * size .nodes + size .nodes) t′ t″ → RowsTo counts valid possible (s + 1) t t″
-    rows-more h e r p =
+    values-rows-more h e r p =
         record { most = omega arith; put = rw (row-after s (counts .nodes)) (put-join (omega arith) (omega arith) (r .put) (rw e at p)) }
 
-    pub rows-done : counts .shapes * counts .nodes ≤ length t → counts .shapes ≤ s → RowsTo counts valid possible s t t′ → ValuesWritten counts valid possible t t′
+    pub values-rows-done : counts .shapes * counts .nodes ≤ length t → counts .shapes ≤ s → RowsTo counts valid possible s t t′ → ValuesWritten counts valid possible t t′
     unfolding valuesIn
-    rows-done room h r = let e : s ≡ counts .shapes = omega arith in record { left = put-all room (rw e at (r .put)) }
+    values-rows-done room h r = let e : s ≡ counts .shapes = omega arith in record { left = put-all room (rw e at (r .put)) }
 
 -- They are the values of two sets of pairs that have what the tables have
 pairs-are : (c : Case) (counts : Counts) → c .nodes ≡ counts .nodes → length (c .shapes) ≡ counts .shapes → pairCount c ≡ counts .shapes * counts .nodes

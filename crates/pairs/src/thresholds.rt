@@ -10,14 +10,14 @@ ghost use Prim.Native.Nat.{_+_, _*_, _≤_};
 ghost use lib.ListN.{length};
 ghost use Rattle.bitset.specs.Words.{HasRow};
 ghost use Rattle.cases.specs.Counts.{wordsOf};
-ghost use Rattle.pairs.specs.Sets.{RowRaised, Threshold};
+ghost use Rattle.pairs.specs.Sets.{RowAtLeast, Threshold};
 
 // Puts the nodes at which shape s has at least the value into row s, which is empty. Those below a are there.
 fn fill_row(size: Size, s: Shape, values: &[u8], least: Value, table: &mut [u64])
     requires { ⌜ size .nodes ≤ 64 * size .words ⌝ }
     requires { ⌜ HasRow (now table) (size .words) (s .0) ⌝ }
     requires { ⌜ s .0 * size .nodes + size .nodes ≤ length (now values) ⌝ }
-    ensures { λ _. ⌜ RowRaised size (s .0) (now (values .entry)) (least .0) (now (table .entry)) (now (table .exit)) ⌝ }
+    ensures { λ _. ⌜ RowAtLeast size (s .0) (now (values .entry)) (least .0) (now (table .entry)) (now (table .exit)) ⌝ }
 {
     let mut a = 0;
     while a < size.nodes {

@@ -25,9 +25,11 @@ use Rattle.parts.specs.declared.readers.Opened.{Opened}
 use Rattle.parts.specs.declared.readers.Opened.the-variants.{Refused, Name, Rule}
 use Rattle.parts.specs.Reads.{withReferences, cursorBehind, cursorReserved, headWidth, aroundOf, joiningOf, atMostOf, atMostRows, innerOf, innerRows}
 use Rattle.parts.specs.Reads.{budget, InnerRoom, PartRoom, Wrote, NamedAs, isRule, OpenedIs, OpenedAs, InnerRead, InnerIs, InnerAs}
-use Rattle.parts.specs.Tables.{rulesIn, namedIn, putRow}
+use Rattle.cases.specs.Rows.{putRow}
+use Rattle.parts.specs.Tables.{rulesIn, namedIn}
 use Rattle.parts.proofs.Opens.{with-references-says}
-use Rattle.parts.proofs.Stores.{length-putRow, rules-filled, length-rulesIn}
+use Rattle.cases.proofs.PutRows.{length-putRow}
+use Rattle.parts.proofs.Stores.{rules-filled, length-rulesIn}
 
 -- ---- What is left, one after another
 
@@ -57,7 +59,8 @@ unfolding namedAt
 wrote-then {own = own} {own′ = own′} {shapes = shapes} {shapes′ = shapes′} {a = a} {fresh = fresh} {named = named} u v = record {
   placed = v .placed ∙ u .placed;
   rules = v .rules ∙ rw (u .rules) (append-assoc (rulesIn fresh (a .fresh)) own own′);
-  notes = v .notes ∙ rw (u .notes, u .placed) (append-assoc (namedIn named (a .noted)) (namedAt (a .place) shapes) (namedAt (a .place) shapes′) ∙ ap (λ l. namedIn named (a .noted) ++ l) (sym (map-append _ shapes shapes′)));
+  notes = v .notes ∙ rw (u .notes, u .placed) (append-assoc (namedIn named (a .noted)) (namedAt (a .place) shapes) (namedAt (a .place) shapes′)
+      ∙ ap (λ l. namedIn named (a .noted) ++ l) (sym (map-append _ shapes shapes′)));
   few-rules = omega (arith, u .few-rules, v .few-rules);
   few-notes = omega (arith, u .few-notes, v .few-notes);
 }

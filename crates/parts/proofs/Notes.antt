@@ -8,7 +8,7 @@ use lib.ListN.{length}
 use Rattle.fixpoint.proofs.Lists.{made-more}
 use Rattle.cases.specs.Reading.{namedAt}
 use Rattle.parts.specs.Tables.{namedIn, Noted}
-use Rattle.parts.proofs.Stores.{two, length-two, two-other, two-first, two-second}
+use Rattle.cases.proofs.PutRows.{two, length-two, two-other, two-first, two-second}
 
 -- What noting no shape, one, and two leaves
 pub noted-none : {place n : ℕ} {t : List ℕ} → Noted [] place n t n t

@@ -20,8 +20,9 @@ use Rattle.cases.specs.Format.{edgeOf, pathRuleOf, shapeRuleOf, targetOf}
 use Rattle.cases.specs.Parts.{Part, Named, Plain, Around, Joining, names, filled, size, innerSize, operand, rule, fresh, inside, rules, freshRules, expansion}
 use Rattle.cases.specs.Rows.{rowIn, edgeIn, pathIn, shapeIn, targetIn, caseIn, Full}
 use Rattle.parts.specs.Expanding.{renumberedReference, renumberedRow, renumbered, sourceRow, ExpandRoom, ExpandedAs}
-use Rattle.parts.specs.Tables.{putRow, rulesIn}
-use Rattle.parts.proofs.Stores.{length-putRow, row-other, row-there}
+use Rattle.cases.specs.Rows.{putRow}
+use Rattle.parts.specs.Tables.{rulesIn}
+use Rattle.cases.proofs.PutRows.{length-putRow, put-row-other, put-row-there}
 
 -- ---- A row says its rule, renumbered too
 
@@ -187,10 +188,10 @@ module _ {counts : Counts} {fresh : List ℕ} {count : ℕ} {rows₀ rows : List
         long = length-putRow rows (1052 + i) new ∙ e .long;
         done = λ j k.
             ⊎-elim
-            (λ a. row-other rows (1052 + i) new (1052 + j) (λ z. omega arith) ∙ e .done j a)
-            (λ a. let z : j ≡ i = omega arith in rw z (row-there rows (1052 + i) new (omega (arith, e .long, e .room .full, e .room .few)) ∙ q))
+            (λ a. put-row-other rows (1052 + i) new (1052 + j) (λ z. omega arith) ∙ e .done j a)
+            (λ a. let z : j ≡ i = omega arith in rw z (put-row-there rows (1052 + i) new (omega (arith, e .long, e .room .full, e .room .few)) ∙ q))
             (lt-cases j i);
-        kept = λ j k. row-other rows (1052 + i) new j (λ z. ⊎-elim (λ a. omega arith) (λ a. omega arith) k) ∙ e .kept j (⊎-elim (λ a. inl a) (λ a. inr (omega arith)) k);
+        kept = λ j k. put-row-other rows (1052 + i) new j (λ z. ⊎-elim (λ a. omega arith) (λ a. omega arith) k) ∙ e .kept j (⊎-elim (λ a. inl a) (λ a. inr (omega arith)) k);
       })
 
   -- the rule of shape j, from its source

@@ -19,7 +19,8 @@ use Rattle.parts.specs.declared.readers.Inner.{Inner}
 use Rattle.parts.specs.declared.readers.Inner.the-variants.{Refused as InnerRefused, Is}
 use Rattle.parts.specs.declared.readers.Opened.{Opened}
 use Rattle.parts.specs.declared.readers.Opened.the-variants.{Refused, Name, Rule}
-use Rattle.parts.specs.Tables.{putRow, rulesIn, namedIn, Noted}
+use Rattle.cases.specs.Rows.{putRow}
+use Rattle.parts.specs.Tables.{rulesIn, namedIn, Noted}
 
 -- a row with other shape operands
 unfoldable pub withReferences : Row → ℕ → ℕ → Row

@@ -1,17 +1,13 @@
--- Rows put into a table, the rules in it, and shapes noted in another. No part of document 01. Assumes nothing.
+-- The rules in a table of rows, and shapes noted in another. No part of document 01. Assumes nothing.
 use Prim.Native.Nat.{ℕ, _+_, _*_, _≤_}
 use mathlib.Core.Path.{_≡_}
 use mathlib.Core.List.{List, _++_, map}
-use lib.ListN.{length, getD, set}
+use lib.ListN.{length, getD}
 use Rattle.fixpoint.specs.Lists.{upTo}
-use Rattle.cases.specs.declared.command.Row.{Row}
 use Rattle.cases.specs.declared.command.ShapeRule.{ShapeRule}
 use Rattle.cases.specs.Format.{shapeRuleOf}
 use Rattle.cases.specs.Reading.{Note, namedAt}
 use Rattle.cases.specs.Rows.{rowIn}
-
-unfoldable pub putRow : List ℕ → ℕ → Row → List ℕ
-putRow t i r = set (set (set (set t (4 * i) (r .0)) (4 * i + 1) (r .1)) (4 * i + 2) (r .2)) (4 * i + 3) (r .3)
 
 -- the rules that the first n rows of a table say
 unfoldable pub rulesIn : List ℕ → ℕ → List ShapeRule

@@ -1,8 +1,8 @@
 // The expansion: the fresh rows behind the written ones, with the numbers that they have now that all shapes are written.
-use crate::tables::put_row;
 use cases::command::Row;
 use cases::counts::Counts;
 use cases::rows::SHAPES;
+use cases::rows::put_row;
 use cases::rows::row_in;
 ghost use mathlib.Core.Path.{_≡_};
 ghost use Prim.Native.Nat.{_+_, _*_, _≤_, _<_};

@@ -3,11 +3,11 @@
 // what is inside it takes theirs, and puts its row there when it is complete.
 use crate::heads::head_at;
 use crate::tables::note_one;
-use crate::tables::put_row;
 use cases::command::Row;
 use cases::counts::Counts;
 use cases::heads::Head;
 use cases::numbers::Shape;
+use cases::rows::put_row;
 ghost use mathlib.Core.Path.{_≡_};
 ghost use Prim.Native.Nat.{_+_, _*_, _≤_};
 ghost use lib.ListN.{length};

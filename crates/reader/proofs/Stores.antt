@@ -18,8 +18,8 @@ use Rattle.cases.specs.Format.{edgeOf, pathRuleOf, shapeRuleOf, targetOf}
 use Rattle.cases.specs.Reading.{add}
 use Rattle.cases.specs.Rows.{edgeIn, pathIn, shapeIn, targetIn, caseIn}
 use Rattle.cases.proofs.Profiles.{shapes-at-most}
-use Rattle.parts.specs.Tables.{putRow}
-use Rattle.parts.proofs.Stores.{length-putRow, kind-kept, kind-more}
+use Rattle.cases.specs.Rows.{putRow}
+use Rattle.cases.proofs.PutRows.{length-putRow, kind-kept, kind-more}
 use Rattle.finding.specs.Finding.{says}
 use Rattle.reader.specs.Storing.{StoreRoom, Stored}
 

@@ -248,8 +248,8 @@ going-none {s} {rows} {profile = profile} h full f n e = rw e (record {
 })
 
 -- the part that starts at an offset, as the loop lends it
-pub rest : (s : List ℕ) (at : ℕ) → take (length s - at) (drop at s) ≡ drop at s
-rest s at = take-all (length s - at) (drop at s) (omega (arith, length-drop at s))
+pub take-rest : (s : List ℕ) (at : ℕ) → take (length s - at) (drop at s) ≡ drop at s
+take-rest s at = take-all (length s - at) (drop at s) (omega (arith, length-drop at s))
 
 -- what the input comes to is sound and fits its tables
 parsed-as : {s : List ℕ} {r : Parsed} {rows : List ℕ} → Full rows → _≡_ {A = Outcome} (record { refusal = r .refusal; case = caseIn (r .counts) rows }) (outcome s) → ParsedAs s r rows
@@ -315,7 +315,7 @@ module _ {s : List ℕ} {at : ℕ} {reached : Reached} {rows fresh named : List 
 
   pub find-room : at < length s → FindRoom (take (length s - at) (drop at s)) reached fresh named
   find-room h = record {
-    some = rw (rest s at) (omega (arith, length-drop at s));
+    some = rw (take-rest s at) (omega (arith, length-drop at s));
     few = omega (arith, shapes-are, few-kept);
     rows = omega (arith, shapes-are, few-kept, g .fresh-long);
     notes = omega (arith, shapes-are, few-kept, g .few, noted-is, g .sound .kept .targets, g .named-long);
@@ -324,7 +324,7 @@ module _ {s : List ℕ} {at : ℕ} {reached : Reached} {rows fresh named : List 
   module _ (h : at < length s) {finding : Finding} {fresh′ named′ : List ℕ} (f : FoundAs (take (length s - at) (drop at s)) at reached rows fresh named finding fresh′ named′) where
     step-is : {step : Step} → finding .step ≡ step → StepIs (foundAt (g .progress) (drop at s)) at reached fresh named step (finding .fresh) (finding .noted) fresh′ named′
     unfolding foundAt
-    step-is e = rw (← e, ← rest s at) (rw edges-are at (f .found .is (g .progress) stands))
+    step-is e = rw (← e, ← take-rest s at) (rw edges-are at (f .found .is (g .progress) stands))
 
     pub going-refused : {step : Step} {number m : ℕ} → finding .step ≡ step → step ≡ Refused number → m ≡ numberOf step → {r : Parsed} → r ≡ refusedAs m at → ParsedAs s r rows
     unfolding StepIs stepped

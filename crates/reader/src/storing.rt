@@ -5,7 +5,7 @@ use cases::counts::Counts;
 use cases::rows::PATHS;
 use cases::rows::SHAPES;
 use cases::rows::TARGETS;
-use parts::tables::put_row;
+use cases::rows::put_row;
 ghost use Rattle.reader.specs.Storing.{Stored, StoreRoom};
 
 // Adds a command to the case in the rows, and answers the new counts.

@@ -21,9 +21,9 @@ use Rattle.semantics.specs.Values.{pairCount}
 use Rattle.semantics.proofs.Pairs.{pairs-at-most}
 
 -- the copy of an input, cut to its length, is the input
-pub copied-whole : (n : ℕ) (s : List ℕ) → length s ≤ n → take (length s) (copied n s) ≡ s
+pub copied-take : (n : ℕ) (s : List ℕ) → length s ≤ n → take (length s) (copied n s) ≡ s
 unfolding copied
-copied-whole n s h =
+copied-take n s h =
     let long = length-made (λ k. getD s k 0) n in
     let cut : length (take (length s) (copied n s)) ≡ length s = length-take-le (length s) (copied n s) (omega arith) in
     ext-getD 0 (take (length s) (copied n s)) s cut

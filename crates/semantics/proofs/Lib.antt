@@ -7,6 +7,7 @@ pub mod Thresholds
 pub mod Levels
 pub mod Solved
 pub mod Held
+pub mod Certain
 pub mod States
 pub mod Rounds
 pub mod Paths

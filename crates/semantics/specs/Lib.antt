@@ -9,7 +9,7 @@ pub mod Stability
 pub mod Solving
 pub mod Denial
 pub mod Operations
-pub mod Refused
+pub mod Answered
 pub mod Totals
 pub mod OldCode
 pub mod Unfinished

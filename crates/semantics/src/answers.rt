@@ -3,7 +3,16 @@
 use cases::answers::Refusal;
 ghost use mathlib.Core.Path.{_≡_};
 ghost use Rattle.semantics.specs.OldCode.{withOldCode};
-ghost use Rattle.semantics.specs.Refused.{refusedSolution, refusedChecked, refusedTotals, rankedBy};
+ghost use Rattle.semantics.specs.Answered.{refusedSolution, refusedChecked, refusedTotals, rankedBy, solvedWith};
+
+// How many pairs are valid and undetermined, and how many targets sure, open and impossible.
+pub struct Tally {
+    pub valid: usize,
+    pub undetermined: usize,
+    pub sure: usize,
+    pub open: usize,
+    pub impossible: usize,
+}
 
 #[repr(C)]
 pub struct Solution {
@@ -30,6 +39,21 @@ impl Solution {
             sure: 0,
             open: 0,
             impossible: 0,
+        }
+    }
+
+    pub fn solved(rounds: usize, tally: Tally) -> Solution
+        ensures { λ r. ⌜ r ≡ solvedWith rounds tally ⌝ }
+    {
+        Solution {
+            number: 0,
+            place: 0,
+            rounds,
+            valid: tally.valid,
+            undetermined: tally.undetermined,
+            sure: tally.sure,
+            open: tally.open,
+            impossible: tally.impossible,
         }
     }
 }

@@ -1,6 +1,6 @@
 // A solve that is not finished, as a state by value: its own copy of the case and the value of each pair so far; and what its calls answer.
 ghost use mathlib.Core.Path.{_≡_};
-ghost use Rattle.semantics.specs.Unfinished.{replyNumber};
+ghost use Rattle.semantics.specs.Unfinished.{certainty, replyNumber};
 
 // The values: 2 in the last T, 0 outside the last P worked out, else 1. `over` is 0 until the end is reached.
 #[repr(C)]
@@ -43,6 +43,22 @@ pub enum Certainty {
     Open,
     Sure,
     NotYet,
+}
+
+// By the value of a pair so far, and whether the end is reached.
+pub fn certainty_of(value: u8, over: bool) -> Certainty
+    ensures { λ r. ⌜ r ≡ certainty value over ⌝ }
+{
+    if 2 <= value {
+        return Certainty::Sure;
+    }
+    if value == 0 {
+        return Certainty::Impossible;
+    }
+    if over {
+        return Certainty::Open;
+    }
+    Certainty::NotYet
 }
 
 pub fn reply_number(certainty: Certainty) -> usize

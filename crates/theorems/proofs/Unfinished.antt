@@ -30,7 +30,7 @@ use Rattle.semantics.specs.Unfinished.{certainty, certainOf, replied, asked}
 use Rattle.semantics.specs.Values.{pairCount}
 use Rattle.semantics.proofs.Kernel.{rule-system}
 use Rattle.semantics.proofs.Refusing.{zero-cases}
-use Rattle.semantics.proofs.Held.{copied-whole, pairs-fit, empty-input-reads, reads-input, refused-input}
+use Rattle.semantics.proofs.Held.{copied-take, pairs-fit, empty-input-reads, reads-input, refused-input}
 use Rattle.semantics.proofs.States.{before-end, after-end, asked-within}
 use Rattle.semantics.proofs.Rounds.{value-sure, settled-T, worked-P, next-T, last-round}
 use Rattle.semantics.proofs.Solved.{value-of, values-length, solved-length}
@@ -110,7 +110,7 @@ first-after s =
     let ones = replicate {A = ℕ} 4096 1 in
     let fit = pairs-fit (heldInput s) 1 in
     record {
-      bytes = copied-whole 8192 (heldInput s) (outcome-length (heldInput s) (input-reads s));
+      bytes = copied-take 8192 (heldInput s) (outcome-length (heldInput s) (input-reads s));
       pairs = refl;
       values =
           ext-getD 0 (take N ones) (valuesOf c (roundT c 0) (lastP c 0)) (length-take-le N ones fit ∙ sym (values-length c _ _))

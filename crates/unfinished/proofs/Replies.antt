@@ -1,37 +1,17 @@
 -- What is replied: the byte of a pair and whether the end is reached say what is certain of it. Assumes nothing.
 use Prim.Native.Nat.{ℕ, _<_, _≤_}
 use mathlib.Core.Path.{_≡_, sym, ap, _∙_}
-use mathlib.Core.Bool.{Bool, true, false, not}
+use mathlib.Core.Bool.{not}
 use mathlib.Core.List.{List}
 use lib.ListN.{length, getD, List·getD-eq-default}
 use lib.Dec.{eqb}
-use borrow.Author.Tests.{le-leb, lt-leb, eq-eqb, ne-eqb}
 use Rattle.semantics.specs.Unfinished.{certainty, certainOf, replyNumber, asked}
 use Rattle.semantics.specs.declared.ongoing.Unfinished.{Unfinished}
 use Rattle.semantics.specs.declared.ongoing.Certainty.{Certainty}
 use Rattle.semantics.proofs.States.{asked-within, asked-beyond}
-use Rattle.semantics.specs.declared.ongoing.Certainty.the-variants.{Impossible, Open, Sure, NotYet}
 
 pub behind-end : (l : List ℕ) (k : ℕ) → length l ≤ k → 0 ≡ getD l k 0
 behind-end l k h = sym (List·getD-eq-default l 0 h)
-
-module _ (v : ℕ) (over : Bool) where
-  pub sure-said : 2 ≤ v → Sure ≡ certainty v over
-  unfolding certainty
-  sure-said h = rw (le-leb 2 v h)
-
-  pub impossible-said : v < 2 → v ≡ 0 → Impossible ≡ certainty v over
-  unfolding certainty
-  impossible-said h z = rw (lt-leb 2 v h, eq-eqb v 0 z)
-
-  module _ (h : v < 2) (n : v ≡ 0 → ⊥) where
-    pub open-said : over ≡ true → Open ≡ certainty v over
-    unfolding certainty
-    open-said e = rw (lt-leb 2 v h, ne-eqb v 0 n, e)
-
-    pub not-yet-said : over ≡ false → NotYet ≡ certainty v over
-    unfolding certainty
-    not-yet-said e = rw (lt-leb 2 v h, ne-eqb v 0 n, e)
 
 module _ (u : Unfinished) (pair : ℕ) where
   pub certain-said : {v : ℕ} {k : Certainty} → v ≡ getD (u .values) pair 0 → k ≡ certainty v (not (eqb (u .over) 0)) → k ≡ certainOf u pair

@@ -2,31 +2,17 @@
 use semantics::ongoing::Certainty;
 use semantics::ongoing::Reply;
 use semantics::ongoing::Unfinished;
+use semantics::ongoing::certainty_of;
 use semantics::ongoing::reply_number;
 ghost use mathlib.Core.Path.{_≡_};
 ghost use lib.ListN.{getD};
-ghost use Rattle.semantics.specs.Unfinished.{asked, certainOf, certainty};
+ghost use Rattle.semantics.specs.Unfinished.{asked, certainOf};
 
 // The byte at a place, 0 behind the end.
 fn byte_at(bytes: &[u8], at: usize) -> u8
     ensures { λ r. ⌜ r ≡ getD (now (bytes .entry)) at 0 ⌝ }
 {
     if at < bytes.len() { bytes[at] } else { 0 }
-}
-
-fn certainty_of(value: u8, over: bool) -> Certainty
-    ensures { λ r. ⌜ r ≡ certainty value over ⌝ }
-{
-    if 2 <= value {
-        return Certainty::Sure;
-    }
-    if value == 0 {
-        return Certainty::Impossible;
-    }
-    if over {
-        return Certainty::Open;
-    }
-    Certainty::NotYet
 }
 
 fn certain_of(u: Unfinished, pair: usize) -> Certainty

@@ -1,6 +1,6 @@
 -- `checker::checking::check_pairs` meets its contract, with levels. Assumes nothing.
 use borrow.Author.Needs.{needs}
-use Rattle.checker.proofs.Checked.{checked-first, checked-next}
+use Rattle.support.proofs.ValueFaults.{checked-first, checked-next}
 use Rattle.checker.proofs.checking.check_pairs.Statement.{statement}
 use Rattle.checker.proofs.checking.check_pairs.Tie as tie
 

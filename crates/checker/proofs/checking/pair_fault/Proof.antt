@@ -1,11 +1,11 @@
 -- `checker::checking::pair_fault` meets its contract: the pass for 15 ends where the pass for 14 did. Assumes nothing.
 use borrow.Author.Needs.{needs}
-use Rattle.checker.proofs.Checked.{level-room, supported-few, pairs-checked}
+use Rattle.checker.proofs.Checked.{supported-few, pairs-checked}
 use Rattle.checker.proofs.checking.pair_fault.Statement.{statement}
 use Rattle.checker.proofs.checking.pair_fault.Tie as tie
 
 level-fault-requires : tie.Need-level-fault-requires
-level-fault-requires c κs = (search, (search level-room, search supported-few))
+level-fault-requires c κs = (search, (search needs, (search needs, (search, search supported-few))))
 
 returns : tie.Need-returns
 returns c = search pairs-checked

@@ -2,18 +2,18 @@
 use Prim.Native.Nat.{_-_}
 use native.Mathlib.Omega.{arith}
 use borrow.Author.Needs.{needs}
-use Rattle.checker.proofs.InDigits.{FilledTo, filled-none, filled-more, filled-done}
+use Rattle.checker.proofs.InDigits.{DigitsFilledTo, digits-filled-none, digits-filled-more, digits-filled-done}
 use Rattle.checker.proofs.digits.fill_digits.Statement.{statement}
 use Rattle.checker.proofs.digits.fill_digits.Tie as tie
 
 abbrev Inv-loop : tie.InvT-loop
-Inv-loop levels size s digits₀ most₀ a₀ digits most a = FilledTo levels size (s .0) digits₀ digits most a
+Inv-loop levels size s digits₀ most₀ a₀ digits most a = DigitsFilledTo levels size (s .0) digits₀ digits most a
 
 abbrev μ-loop : tie.MeasureT-loop
 μ-loop levels size s digits₀ most₀ a₀ digits most a = size .nodes - a
 
 loop-holds : tie.Need-loop-holds Inv-loop μ-loop
-loop-holds c = search filled-none
+loop-holds c = search digits-filled-none
 
 insert-digits-requires : tie.Need-insert-digits-requires Inv-loop μ-loop
 insert-digits-requires c κs = search (needs)
@@ -22,13 +22,13 @@ loop-less : tie.Need-loop-less Inv-loop μ-loop
 loop-less c = omega arith
 
 loop-again : tie.Need-loop-again Inv-loop μ-loop
-loop-again c = search filled-more
+loop-again c = search digits-filled-more
 
 same-length : tie.Need-same-length Inv-loop μ-loop
 same-length c = search needs
 
 returns : tie.Need-returns Inv-loop μ-loop
-returns c = search (filled-done, arith)
+returns c = search (digits-filled-done, arith)
 
 pub fill-digits-spec : {M : Type 1} → statement M
 fill-digits-spec =

@@ -1,7 +1,7 @@
 -- `checker::digits::level_at` meets its contract: bytes are below 256, so that the sum fits. Assumes nothing.
 use native.Mathlib.Omega.{arith}
 use borrow.Author.Needs.{needs}
-use Rattle.checker.specs.Sets.{levelAt}
+use Rattle.checker.specs.LevelRows.{levelAt}
 use Rattle.checker.proofs.digits.level_at.Statement.{statement}
 use Rattle.checker.proofs.digits.level_at.Tie as tie
 

@@ -2,7 +2,7 @@
 use Prim.Native.Nat.{_-_, _≤_}
 use native.Mathlib.Omega.{arith}
 use borrow.Author.Needs.{needs}
-use Rattle.checker.proofs.Justified.{path-row, path-small}
+use Rattle.support.proofs.RulesThere.{block-row, block-row-small}
 use Rattle.checker.proofs.justification.has_many.Statement.{statement}
 use Rattle.checker.proofs.justification.has_many.Tie as tie
 
@@ -16,10 +16,10 @@ loop-holds : tie.Need-loop-holds Inv-loop μ-loop
 loop-holds c = omega arith
 
 filler-row-requires : tie.Need-filler-row-requires Inv-loop μ-loop
-filler-row-requires c κs = search (path-small, arith)
+filler-row-requires c κs = search (block-row-small, arith)
 
 count-common-requires : tie.Need-count-common-requires Inv-loop μ-loop
-count-common-requires c κs = search (path-row, arith)
+count-common-requires c κs = search (block-row, arith)
 
 returns : tie.Need-returns Inv-loop μ-loop
 returns c = search

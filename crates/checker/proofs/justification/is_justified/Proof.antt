@@ -1,22 +1,23 @@
 -- `checker::justification::is_justified` meets its contract: the sets tell the value of the pair. Assumes nothing.
-use Rattle.checker.proofs.Justified.{justified-valid, justified-open, justified-violated, node-small, valid-fits, possible-fits}
+use Rattle.support.proofs.RulesThere.{set-row, node-in-words}
+use Rattle.checker.proofs.Justified.{justified-valid, justified-open, justified-violated}
 use Rattle.checker.proofs.justification.is_justified.Statement.{statement}
 use Rattle.checker.proofs.justification.is_justified.Tie as tie
 
 is-member-requires : tie.Need-is-member-requires
-is-member-requires c κs = search node-small
+is-member-requires c κs = (search set-row, search node-in-words)
 
 suffices-requires : tie.Need-suffices-requires
-suffices-requires c κs = search valid-fits
+suffices-requires c κs = (search, (search, (search, search)))
 
 returns : tie.Need-returns
 returns c = search justified-valid
 
 is-member-requires-2 : tie.Need-is-member-requires-2
-is-member-requires-2 c κs = search node-small
+is-member-requires-2 c κs = (search set-row, search node-in-words)
 
 suffices-requires-2 : tie.Need-suffices-requires-2
-suffices-requires-2 c κs = search possible-fits
+suffices-requires-2 c κs = (search, (search, (search, search)))
 
 returns-2 : tie.Need-returns-2
 returns-2 c = search justified-open

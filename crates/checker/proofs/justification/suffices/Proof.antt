@@ -1,8 +1,11 @@
 -- `checker::justification::suffices` meets its contract. Assumes nothing.
-use borrow.Author.Needs.{needs}
-use Rattle.checker.proofs.Justified.{suffices-never, suffices-if}
+use native.Mathlib.Omega.{arith}
+use Rattle.checker.proofs.Justified.{level-base-fits, level-place-fits, level-place-there, suffices-never, suffices-if}
 use Rattle.checker.proofs.justification.suffices.Statement.{statement}
 use Rattle.checker.proofs.justification.suffices.Tie as tie
+
+support-below-requires : tie.Need-support-below-requires
+support-below-requires c κs = (search, (search, (search, search)))
 
 returns : tie.Need-returns
 returns c = search suffices-if
@@ -14,9 +17,9 @@ pub suffices-spec : {M : Type 1} → statement M
 suffices-spec =
     tie.close
     (tie.spec
-    (λ c. search needs)
-    (λ c. search needs)
-    (λ c κs. search needs)
-    (λ c κs. search needs)
+    (λ c. search (level-base-fits, arith))
+    (λ c. search (level-place-fits, arith))
+    (λ c κs. search level-place-there)
+    support-below-requires
     returns
     returns-2)

@@ -3,24 +3,24 @@
 use Prim.Native.Nat.{_-_}
 use native.Mathlib.Omega.{arith}
 use borrow.Author.Needs.{needs}
-use Rattle.checker.proofs.Justified.{JustifiedTo, justified-none, justified-node, justified-more, justified-first, justified-all}
+use Rattle.checker.proofs.Justified.{JustifiedTo, level-base-fits, level-end-fits, justified-none, justified-node, justified-more, justified-first, justified-all}
 use Rattle.checker.proofs.justification.unjustified_row.Statement.{statement}
 use Rattle.checker.proofs.justification.unjustified_row.Tie as tie
 
 abbrev Inv-loop : tie.InvT-loop
-Inv-loop rule s size sets valid possible levels digits used pairs first end k₀ k = JustifiedTo rule (s .0) size sets valid possible levels pairs k
+Inv-loop by pairs sets valid possible levels digits first end k₀ k = JustifiedTo (by .of) sets valid possible levels pairs k
 
 abbrev μ-loop : tie.MeasureT-loop
-μ-loop rule s size sets valid possible levels digits used pairs first end k₀ k = end - k
+μ-loop by pairs sets valid possible levels digits first end k₀ k = end - k
 
 loop-holds : tie.Need-loop-holds Inv-loop μ-loop
 loop-holds c = justified-none
 
-sub-t18 : tie.Need-sub-t18 Inv-loop μ-loop
-sub-t18 c = c .before .loop .inv .from
+sub-a : tie.Need-sub-a Inv-loop μ-loop
+sub-a c = c .before .loop .inv .from
 
 is-justified-requires : tie.Need-is-justified-requires Inv-loop μ-loop
-is-justified-requires c κs = search justified-node
+is-justified-requires c κs = (search, (search, (search, (search, search justified-node))))
 
 returns : tie.Need-returns Inv-loop μ-loop
 returns c = search justified-first
@@ -29,10 +29,7 @@ loop-less : tie.Need-loop-less Inv-loop μ-loop
 loop-less c = omega arith
 
 loop-again : tie.Need-loop-again Inv-loop μ-loop
-loop-again c =
-    let d = c .before .before .before in
-    let o = d .before .before in
-    justified-more (o .loop .inv) (d .before .loop-test .taken) (o .before .smaller .ensures .0) (o .before .smaller .ensures .1 .0) (d .is-justified .ensures) (c .before .before .refuse-unless .ensures) (c .if1 .left)
+loop-again c = search (justified-more (c .before .before .before .before .before .loop .inv))
 
 returns-2 : tie.Need-returns-2 Inv-loop μ-loop
 returns-2 c = search justified-all
@@ -43,11 +40,11 @@ unjustified-row-spec =
     (tie.spec
     Inv-loop
     μ-loop
-    (λ c. search needs)
-    (λ c. search needs)
+    (λ c. search (level-base-fits, arith))
+    (λ c. search (level-end-fits, arith))
     (λ c κs. search needs)
     loop-holds
-    sub-t18
+    sub-a
     is-justified-requires
     (λ c κs. search needs)
     returns

@@ -11,7 +11,9 @@ note-requires : tie.Need-note-requires
 note-requires c κs = search plain-room
 
 returns-2 : tie.Need-returns-2
-returns-2 c = plain-noted _ (c .before .before .before .before .before .before .before .before .before .before .args .reached) (c .before .before .before .before .before .before .before .next .ensures) (c .before .before .before .before .before .step .given .1) (c .before .before .note .ensures)
+returns-2 c =
+    let start = c .before .before .before .before .before .before .before in
+    plain-noted _ (start .before .before .before .args .reached) (start .next .ensures) (c .before .before .before .before .before .step .given .1) (c .before .before .note .ensures)
 
 pub find-plain-spec : {M : Type 1} → statement M
 find-plain-spec =

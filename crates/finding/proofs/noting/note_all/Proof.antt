@@ -1,5 +1,5 @@
 -- `finding::noting::note_all` meets its contract: each arm notes its references. Assumes nothing.
-use Rattle.finding.proofs.Notes.{room-one, room-two, room-second, noted-of-none, noted-of-one, noted-of-two}
+use Rattle.finding.proofs.Notes.{room-one, room-two, note-room-second, noted-of-none, noted-of-one, noted-of-two}
 use borrow.Author.Needs.{needs}
 use Rattle.finding.proofs.noting.note_all.Statement.{statement}
 use Rattle.finding.proofs.noting.note_all.Tie as tie
@@ -11,7 +11,7 @@ note-one-requires-2 : tie.Need-note-one-requires-2
 note-one-requires-2 c κs = search room-two
 
 note-one-requires-3 : tie.Need-note-one-requires-3
-note-one-requires-3 c κs = search room-second
+note-one-requires-3 c κs = search note-room-second
 
 returns : tie.Need-returns
 returns c = search noted-of-none

@@ -1,5 +1,5 @@
 -- `judge::checking::check` meets its contract. Assumes nothing.
-use Rattle.judge.proofs.Checks.{check-refused, values-there, levels-there, check-read}
+use Rattle.judge.proofs.Checks.{check-refused, check-values-there, check-levels-there, check-read}
 use borrow.Author.Needs.{needs}
 use Rattle.judge.proofs.checking.check.Statement.{statement}
 use Rattle.judge.proofs.checking.check.Tie as tie
@@ -7,8 +7,8 @@ use Rattle.judge.proofs.checking.check.Tie as tie
 returns : tie.Need-returns
 returns c = search check-refused
 
-check-case-requires : tie.Need-check-case-requires
-check-case-requires c κs = search (needs, values-there, levels-there)
+check-proposal-requires : tie.Need-check-proposal-requires
+check-proposal-requires c κs = search (needs, check-values-there, check-levels-there)
 
 returns-2 : tie.Need-returns-2
 returns-2 c = search check-read
@@ -24,5 +24,5 @@ check-spec =
     (λ c κs. search needs)
     returns
     (λ c. search needs)
-    check-case-requires
+    check-proposal-requires
     returns-2)

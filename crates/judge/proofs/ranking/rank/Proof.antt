@@ -1,5 +1,5 @@
 -- `judge::ranking::rank` meets its contract. Assumes nothing.
-use Rattle.judge.proofs.Ranks.{shapes-there, rank-refused, strata-there, rank-read}
+use Rattle.judge.proofs.Ranks.{ranked-shapes-there, rank-refused, strata-there, rank-read}
 use borrow.Author.Needs.{needs}
 use Rattle.judge.proofs.ranking.rank.Statement.{statement}
 use Rattle.judge.proofs.ranking.rank.Tie as tie
@@ -8,7 +8,7 @@ returns : tie.Need-returns
 returns c = search rank-refused
 
 rank-shapes-requires : tie.Need-rank-shapes-requires
-rank-shapes-requires c κs = search (shapes-there, strata-there)
+rank-shapes-requires c κs = search (ranked-shapes-there, strata-there)
 
 returns-2 : tie.Need-returns-2
 returns-2 c = search rank-read

@@ -7,8 +7,8 @@ use Rattle.judge.proofs.supporting.check_supported.Tie as tie
 returns : tie.Need-returns
 returns c = search old-refused
 
-check-values-requires : tie.Need-check-values-requires
-check-values-requires c κs = search (needs, old-values-there)
+check-proposal-requires : tie.Need-check-proposal-requires
+check-proposal-requires c κs = search (needs, old-values-there)
 
 returns-2 : tie.Need-returns-2
 returns-2 c = search old-read
@@ -26,6 +26,7 @@ check-supported-spec =
     (λ c κs. search needs)
     returns
     (λ c. search needs)
-    check-values-requires
+    (λ c. search needs)
+    check-proposal-requires
     (λ c κs. search needs)
     returns-2)

@@ -7,8 +7,8 @@ use Rattle.judge.proofs.totalling.node_totals.Tie as tie
 returns : tie.Need-returns
 returns c = search totals-refused
 
-total-node-requires : tie.Need-total-node-requires
-total-node-requires c κs = search (needs, node-known)
+total-case-requires : tie.Need-total-case-requires
+total-case-requires c κs = search (needs, node-known)
 
 returns-2 : tie.Need-returns-2
 returns-2 c = search totals-read
@@ -24,5 +24,5 @@ node-totals-spec =
     (λ c κs. search needs)
     returns
     (λ c. search needs)
-    total-node-requires
+    total-case-requires
     returns-2)

@@ -2,7 +2,7 @@
 use Prim.Native.Nat.{_-_}
 use native.Mathlib.Omega.{arith}
 use borrow.Author.Needs.{needs}
-use Rattle.pairs.proofs.Valued.{row-wide, row-there, node-there}
+use Rattle.pairs.proofs.Valued.{row-wide, set-row-there, node-there}
 use Rattle.pairs.proofs.Tallying.{nodeValueAt, Tallied, tallied-none, tallied-more, tallied-fits, node-value, node-tallied}
 use Rattle.pairs.proofs.tallies.tally_node.Statement.{statement}
 use Rattle.pairs.proofs.tallies.tally_node.Tie as tie
@@ -17,7 +17,7 @@ loop-holds : tie.Need-loop-holds Inv-loop μ-loop
 loop-holds c = tallied-none
 
 value-at-requires : tie.Need-value-at-requires Inv-loop μ-loop
-value-at-requires c κs = search (row-wide, row-there, node-there)
+value-at-requires c κs = search (row-wide, set-row-there, node-there)
 
 add-count : tie.Need-add-count Inv-loop μ-loop
 add-count c = search (tallied-fits, node-value, arith)

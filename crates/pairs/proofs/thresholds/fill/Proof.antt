@@ -2,7 +2,7 @@
 use Prim.Native.Nat.{_-_}
 use native.Mathlib.Omega.{arith}
 use borrow.Author.Needs.{needs}
-use Rattle.pairs.proofs.Raised.{ThresholdTo, threshold-none, row-wide, row-there, row-valued, threshold-more, threshold-done}
+use Rattle.pairs.proofs.Raised.{ThresholdTo, threshold-none, raised-row-wide, raised-row-there, row-valued, threshold-more, threshold-done}
 use Rattle.pairs.proofs.thresholds.fill.Statement.{statement}
 use Rattle.pairs.proofs.thresholds.fill.Tie as tie
 
@@ -16,7 +16,7 @@ loop-holds : tie.Need-loop-holds Inv-loop μ-loop
 loop-holds c = search threshold-none
 
 fill-row-requires : tie.Need-fill-row-requires Inv-loop μ-loop
-fill-row-requires c κs = search (row-wide, row-there, row-valued)
+fill-row-requires c κs = search (raised-row-wide, raised-row-there, row-valued)
 
 loop-less : tie.Need-loop-less Inv-loop μ-loop
 loop-less c = omega arith

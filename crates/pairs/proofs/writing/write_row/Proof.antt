@@ -2,7 +2,7 @@
 use Prim.Native.Nat.{_-_, _*_}
 use native.Mathlib.Omega.{arith}
 use borrow.Author.Needs.{needs}
-use Rattle.pairs.proofs.Valued.{RowTo, row-none, row-more, row-done}
+use Rattle.pairs.proofs.Valued.{RowTo, row-to-none, row-more, row-done}
 use Rattle.pairs.proofs.writing.write_row.Statement.{statement}
 use Rattle.pairs.proofs.writing.write_row.Tie as tie
 
@@ -13,7 +13,7 @@ abbrev μ-loop : tie.MeasureT-loop
 μ-loop size s valid possible values₀ base a₀ values a = 64 * size .words - a
 
 loop-holds : tie.Need-loop-holds Inv-loop μ-loop
-loop-holds c = row-none
+loop-holds c = row-to-none
 
 slice-write-values : tie.Need-slice-write-values Inv-loop μ-loop
 slice-write-values c = omega arith

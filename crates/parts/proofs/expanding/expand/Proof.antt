@@ -31,7 +31,8 @@ loop-less c = omega arith
 loop-again : tie.Need-loop-again Inv-loop μ-loop
 loop-again c =
     let test = c .before .before .before .before .before .before .before in
-    expanding-more (test .before .loop .inv) (c .before .before .before .before .before .source-row .ensures) (c .before .before .before .renumbered-row .ensures) (test .loop-test .taken) (c .before .before .put-row .ensures)
+    expanding-more (test .before .loop .inv) (c .before .before .before .before .before .source-row .ensures)
+    (c .before .before .before .renumbered-row .ensures) (test .loop-test .taken) (c .before .before .put-row .ensures)
 
 same-length : tie.Need-same-length Inv-loop μ-loop
 same-length c = c .before .loop .inv .long

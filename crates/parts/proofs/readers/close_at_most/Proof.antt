@@ -7,7 +7,9 @@ returns : tie.Need-returns
 returns c = let e = c .before .inner .given .1 in (rw e, rw e)
 
 returns-2 : tie.Need-returns-2
-returns-2 c = let e = c .before .before .before .before .before .before .before .inner2 .given .1 in (rw (e, c .fresh-reference .ensures), rw (e, ← c .before .before .before .before .with-references .ensures) (c .before .before .before .put-row .ensures))
+returns-2 c =
+    let e = c .before .before .before .before .before .before .before .inner2 .given .1 in
+    (rw (e, c .fresh-reference .ensures), rw (e, ← c .before .before .before .before .with-references .ensures) (c .before .before .before .put-row .ensures))
 
 pub close-at-most-spec : {M : Type 1} → statement M
 close-at-most-spec =

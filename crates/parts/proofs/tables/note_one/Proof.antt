@@ -1,6 +1,6 @@
 -- `parts::tables::note_one` meets its contract: two stores. Assumes nothing.
 use Rattle.parts.proofs.Notes.{noted-one}
-use Rattle.parts.proofs.Stores.{two}
+use Rattle.cases.proofs.PutRows.{two}
 use lib.ListN.{length-set}
 use native.Mathlib.Omega.{arith}
 use borrow.Author.Needs.{needs}

@@ -59,7 +59,9 @@ ended-requires c κs =
     end-room (tested .before .loop .inv .0) (tested .loop-test .taken) (found .find .ensures) refl (c .before .before .before .before .before .before .step .given .1)
 
 same-length-2 : tie.Need-same-length-2 Inv-loop μ-loop
-same-length-2 c = c .before .before .ended .ensures .long ∙ c .before .before .before .before .before .before .before .before .before .before .before .before .before .before .before .before .before .before .before .loop .inv .1
+same-length-2 c =
+    let found = c .before .before .before .before .before .before .before .before .before .before .before .before in
+    c .before .before .ended .ensures .long ∙ found .before .before .before .before .before .before .before .loop .inv .1
 
 returns-2 : tie.Need-returns-2 Inv-loop μ-loop
 returns-2 c =
@@ -97,7 +99,8 @@ loop-again c =
     let found = step .before .before .before .before in
     let tested = found .before .before .before .before .before in
     let g = tested .before .loop .inv in (
-      going-more (g .0) (tested .loop-test .taken) (found .find .ensures) refl (step .step .given .1) (asked .is-end .ensures) (c .before .before .before .before .before .if1 .left) (stored .store .ensures),
+      going-more (g .0) (tested .loop-test .taken) (found .find .ensures) refl (step .step .given .1) (asked .is-end .ensures)
+          (c .before .before .before .before .before .if1 .left) (stored .store .ensures),
       stored .store .ensures .long ∙ g .1,
     )
 
