@@ -21,14 +21,15 @@
  *   1        256    16
  *   2        512    8
  *
- * A case that begins with 00 00 is answered as the same without these two bytes, but that offsets are two more.
+ * An input that begins with 00 00 and whose third byte is not 00 is answered as what stands behind these two bytes, but that places that are
+ * offsets are two more, and that the copy in a judge_unfinished has them.
  *
- * Every answer but an advance's starts with a refusal number, 0 for none, and its place. A refused call writes nothing, and every count of
+ * Every answer but an advance's starts with a refusal number, 0 for none, and its place; solve and check answer the number alone. A refused call writes nothing, and every count of
  * its answer, and a reply, is 0 (the code of the old check is no count: it is always 1). Otherwise the leading entries of the tables are
  * written and all later bytes keep their contents.
  *
  *   number  refused because                                              place
- *   1       unknown command byte                                         the command's offset
+ *   1       unknown command byte, or part byte in a command 28           the command's offset
  *   2       command out of order                                         the command's offset
  *   3       the input ends before the command or its operands do         the command's offset, or the input's length
  *   4       a limit is exceeded                                          the command's offset
@@ -53,8 +54,8 @@
  *   22      unknown profile                                              the command's offset
  *
  * Reading's refusals are 1 to 9, 18 to 20 and 22. Command 03 parks an edge for good: it gives no fillers, and a later 02 does not bring it
- * back. Both commands stay on record, and each counts as an edge, in the limit too. Command 28 holds a whole rule; what it writes inside
- * itself become fresh shapes, numbered after all written ones. Pairs, tables and the count of shapes are those of all shapes, fresh ones
+ * back. Both commands stay on record, and each counts as an edge, in the limit too. Command 28 holds a whole rule; the parts
+ * inside it, but for a named shape (29), become fresh shapes, two for an at most (2A), numbered after all written ones. Pairs, tables and the count of shapes are those of all shapes, fresh ones
  * too.
  */
 #ifndef JUDGE_H
@@ -209,7 +210,8 @@ struct judge_totals judge_node_totals(const uint8_t *case_bytes, size_t case_len
  * input, and is not at its end. */
 struct judge_begun judge_begin(const uint8_t *case_bytes, size_t case_length);
 
-/* Takes one round. The end comes after exactly as many advances as judge_solve has rounds, with its values; an advance after it alters nothing.
+/* Takes one round. The end comes after exactly as many advances as judge_solve has rounds, with its values (of a refused beginning, after one);
+ * an advance after it alters nothing.
  * Each advance reads the case again and takes its round from nothing, so all of them together cost more than judge_solve. */
 struct judge_advanced judge_advance(struct judge_unfinished unfinished);
 

@@ -135,7 +135,7 @@ module _ {t : ShapeRule → Bool} (b : Blind t) where
 
 -- ---- What the expansion refers to: named shapes, and fresh ones
 
-abbrev below : ℕ → List ℕ → Bool
+abbrev pub below : ℕ → List ℕ → Bool
 below m l = all l (λ s. ltb s m)
 
 filled-below : (m : ℕ) (r : ShapeRule) (p q : ℕ) → p < m → q < m → below m (references (filled r p q)) ≡ true
@@ -158,7 +158,7 @@ module _ (m : ℕ) where
   operand-below n (Around r x) h k = omega arith
   operand-below n (Joining r x y) h k = omega arith
 
-  names-both : (x y : Part) → below m (names x ++ names y) ≡ true → (below m (names x) ≡ true) × (below m (names y) ≡ true)
+  pub names-both : (x y : Part) → below m (names x ++ names y) ≡ true → (below m (names x) ≡ true) × (below m (names y) ≡ true)
   names-both x y h = and-eq-true-iff (below m (names x)) (below m (names y)) .0 (sym (all-append (names x) (names y) (λ s. ltb s m)) ∙ h)
 
   named-below : (s : ℕ) → below m (s ∷ []) ≡ true → below m (references (Or (record { 0 = s }) (record { 0 = s }))) ≡ true

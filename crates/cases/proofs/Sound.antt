@@ -24,9 +24,9 @@ use Rattle.cases.specs.Counts.{isProfile, nodeLimit, edgeLimit, pathLimi
 use Rattle.cases.specs.Faults.{inOrder, shapeNodesKnown, pathPathsEarlier, shapePathsEarlier, shapeLeastPositive}
 use Rattle.cases.specs.Parts.{Part, names, rules, freshRules, expansion}
 use Rattle.cases.specs.Reading.{Note, Progress, start, countsSoFar, add, shapesNamed, namedAt, Entry, Shape, Other, pass}
-use Rattle.cases.specs.Reading.{unknownShape, afterEnd, refused, finish, expanded, profileOf, outcome}
+use Rattle.cases.specs.Reading.{unknownShape, afterEnd, refused, finish, walked, partsOf, expanded, profileOf, outcome}
 use Rattle.cases.specs.Sound.{Sound, Limited}
-use Rattle.cases.proofs.Expansion.{ruled, expansion-passes, expansion-below, length-expansion}
+use Rattle.cases.proofs.Expansion.{below, ruled, expansion-passes, expansion-below, length-expansion}
 use Rattle.cases.proofs.Opening.{shapeSound, sound-blind}
 use Rattle.cases.proofs.Steps.{ofGroup, CommandShows, EntryShows, Shows, profile-known, walked-keeps, Admitted}
 
@@ -107,9 +107,6 @@ unbegun-kept profile n h =
 
 -- ---- Refusal 9: the shape operands read so far
 
-unfoldable pub below : ℕ → List ℕ → Bool
-below n l = all l (λ s. ltb s n)
-
 -- the shapes that written shapes and targets name are below n
 pub record NamedBelow (n : ℕ) (p : Progress) : Type 0 where
   pub shapes : all (p .written) (λ x. below n (names x)) ≡ true
@@ -117,7 +114,7 @@ pub record NamedBelow (n : ℕ) (p : Progress) : Type 0 where
 
 targets-named : (n : ℕ) (c : Case) (command : Command) → below n (shapesNamed command) ≡ true → all (c .targets) (λ t. ltb (t .shape .0) n) ≡ true
     → all (add c command .targets) (λ t. ltb (t .shape .0) n) ≡ true
-unfolding below shapesNamed add all
+unfolding shapesNamed add all
 targets-named n c (Nodes k) h o = o
 targets-named n c (EdgeCommand e) h o = o
 targets-named n c (PathCommand r) h o = o
@@ -128,7 +125,7 @@ targets-named n c End h o = o
 -- the same notes, tested
 noted-below : (n at : ℕ) (old : List Note) (shapes : List ℕ) → all (old ++ namedAt at shapes) (λ r. ltb (r .shape) n) ≡ true
     → (all old (λ r. ltb (r .shape) n) ≡ true) × (below n shapes ≡ true)
-unfolding namedAt below
+unfolding namedAt
 noted-below n at old shapes h =
     let t : Note → Bool = λ r. ltb (r .shape) n in
     let both = and-eq-true-iff (all old t) (all (namedAt at shapes) t) .0 (sym (all-append old (namedAt at shapes) t) ∙ h) in
@@ -152,10 +149,17 @@ pub record Fitting (profile : ℕ) (c : Case) : Type 0 where
   pub sound : Sound c
   pub limited : Limited profile c
 
-fitting : (p : Progress) → isProfile (p .profile) ≡ true → CaseKept (p .profile) (p .case) (p .written) → NamedBelow (length (p .written)) p
-    → Fitting (p .profile) (expanded p)
-unfolding expanded below edgeSound shapeSound targetSound pathRule
-fitting p known-profile k o =
+-- of what has been read when reading ends: what it keeps, and that every shape operand names a written shape
+record AllRead (profile : ℕ) (p : Progress) : Type 0 where
+  known : isProfile profile ≡ true
+  kept : CaseKept profile (p .case) (p .written)
+  named : NamedBelow (length (p .written)) p
+
+fitting : (profile : ℕ) (p : Progress) → AllRead profile p → Fitting profile (expanded p)
+unfolding expanded edgeSound shapeSound targetSound pathRule
+fitting profile p r =
+    let k = r .kept in
+    let o = r .named in
     let n = p .case .nodes in
     let m = length (p .case .paths) in
     let l = expansion (p .written) in
@@ -177,7 +181,7 @@ fitting p known-profile k o =
           };
       limited =
           record {
-            known = known-profile;
+            known = r .known;
             nodes-limited = k .nodes;
             edges-limited = k .edges .limited;
             paths-limited = k .paths .limited;
@@ -290,10 +294,6 @@ start-sound profile h =
       unshaped = λ h. refl;
     }
 
-start-fitting : (profile : ℕ) → isProfile profile ≡ true → Fitting profile (expanded (start profile))
-unfolding start emptyCase all
-start-fitting profile h = fitting (start profile) h (start-sound profile h .kept) (record { shapes = refl; targets = refl })
-
 unknownShape-none : (n : ℕ) (l : List Note) → unknownShape n l .number ≡ 0 → all l (λ r. ltb (r .shape) n) ≡ true
 unfolding unknownShape all
 unknownShape-none n [] h = refl
@@ -315,26 +315,38 @@ record SoundUnder (profile : ℕ) (p : Progress) : Type 0 where
   under : p .profile ≡ profile
 
 module _ (s : List ℕ) where
-  -- nothing is left of a refused input, which fits under every profile
-  refused-fitting : Fitting (profileOf s) (expanded (start 0))
-  unfolding expanded start
-  refused-fitting = start-fitting (profileOf s) (profile-known s)
+  -- nothing is left of a refused input, which is within the limits of every profile
+  refused-read : AllRead (profileOf s) (start 0)
+  unfolding start emptyCase all
+  refused-read =
+      let known = profile-known s in
+      record { known = known; kept = start-sound (profileOf s) known .kept; named = record { shapes = refl; targets = refl } }
 
-  finish-fitting : (end : ℕ) (p : Progress) → SoundUnder (profileOf s) p → Fitting (profileOf s) (expanded (finish s end p .read))
+  finish-read : (end : ℕ) (p : Progress) → SoundUnder (profileOf s) p → AllRead (profileOf s) (finish s end p .read)
   unfolding finish
-  finish-fitting end p k =
+  finish-read end p k =
       let o = k .sound in
       by-test (eqb (afterEnd s end p .number) 0)
-      (λ e. rw (e, ← k .under) (fitting p (o .known) (o .kept) (o .named (length (p .written)) (afterEnd-none s end p (eqb-true (afterEnd s end p .number) 0 e)))))
-      (λ e. rw e refused-fitting)
+      (λ e. rw (e, ← k .under)
+      (record { known = o .known; kept = o .kept; named = o .named (length (p .written)) (afterEnd-none s end p (eqb-true (afterEnd s end p .number) 0 e)) }))
+      (λ e. rw e refused-read)
 
-  outcome-fitting : Fitting (profileOf s) (outcome s .case)
-  unfolding outcome refused start
-  outcome-fitting =
-      walked-keeps (SoundUnder (profileOf s)) (λ w. Fitting (profileOf s) (expanded (w .read))) s
-      (λ n at h. refused-fitting) finish-fitting
+  walked-read : AllRead (profileOf s) (walked s .read)
+  unfolding refused start
+  walked-read =
+      walked-keeps (SoundUnder (profileOf s)) (λ w. AllRead (profileOf s) (w .read)) s
+      (λ n at h. refused-read) finish-read
       (λ at p e taken h r k. record { sound = sound-pass s at p e taken h r (k .sound); under = profile-pass p at (taken .group) e ∙ k .under })
       (λ h. record { sound = start-sound (profileOf s) h; under = refl })
+
+  outcome-fitting : Fitting (profileOf s) (outcome s .case)
+  unfolding outcome
+  outcome-fitting = fitting (profileOf s) (walked s .read) walked-read
+
+-- "Operands and targets name written shapes only": the parts of a read input; a refused one has none
+pub parts-known : (s : List ℕ) → all (partsOf s) (λ x. below (length (partsOf s)) (names x)) ≡ true
+unfolding partsOf
+parts-known s = walked-read s .named .shapes
 
 pub outcome-sound : (s : List ℕ) → Sound (outcome s .case)
 outcome-sound s = outcome-fitting s .sound

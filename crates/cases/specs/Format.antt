@@ -126,6 +126,6 @@ commandOf group r =
     (cond (eqb group 5) (TargetCommand (targetOf r))
     End))))
 
--- the command that a part of the input starts with, if its byte is known and none of 00, which is out of order wherever this is asked
+-- the command that a part of the input starts with, if its byte is known and not 00, which is out of order wherever this is asked
 unfoldable pub commandAt : List ℕ → Command
 commandAt s = commandOf (groupOf (getD s 0 0)) (rowOf s)

@@ -117,7 +117,7 @@ countsSoFar p =
       targets = length (p .case .targets);
     }
 
--- the case with one command more (a shape command adds a part, below, and nothing here)
+-- the case with one command more (reading adds a shape command as a part, below: the clause of a shape is for the table of rows)
 unfoldable pub add : Case → Command → Case
 add c (Nodes n) = record { nodes = n; edges = c .edges; paths = c .paths; shapes = c .shapes; targets = c .targets }
 add c (EdgeCommand e) = record { nodes = c .nodes; edges = c .edges ++ (e ∷ []); paths = c .paths; shapes = c .shapes; targets = c .targets }

@@ -8,7 +8,7 @@ use mathlib.Core.List.{List}
 use lib.ListN.{length, getD}
 use lib.Bits.{bitAnd}
 use lib.Count.{ones}
-use lib.Dec.{eqb}
+use lib.Dec.{eqb, ltb}
 use mir.Syntax.{w64}
 use mir.Val.{Fits}
 use borrow.Author.Tests.{eqb-true}
@@ -20,6 +20,10 @@ use Rattle.bitset.proofs.Members.{member-word, count-word}
 use Rattle.cases.specs.declared.counts.Size.{Size}
 use Rattle.checker.specs.Digits.{DigitsUnless, LowerIn}
 use Rattle.checker.specs.LevelRows.{levelAt, isLow, LevelRow, RowBelow, WordWhere}
+
+-- a level that was read, compared with the bound
+pub lower-said : (levels : List ℕ) (bound : ℕ) (size : Size) (s a : ℕ) {level : ℕ} → level ≡ levelAt levels (s * size .nodes + a) → ltb level bound ≡ isLow levels bound size s a
+lower-said levels bound size s a e = rw e
 
 -- ---- The passing numbers of a word: those outside `rest` are sorted out
 

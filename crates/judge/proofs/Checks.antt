@@ -10,9 +10,10 @@ use borrow.Author.Tests.{leb-true}
 use Rattle.cases.specs.Rows.{caseIn}
 use Rattle.cases.specs.declared.answers.Parsed.{Parsed}
 use Rattle.cases.specs.declared.answers.Refusal.{Refusal}
+use Rattle.cases.specs.declared.counts.Counts.{Counts}
 use Rattle.reader.specs.Parsing.{ParsedAs}
 use Rattle.semantics.specs.declared.answers.Checked.{Checked}
-use Rattle.semantics.specs.Operations.{orElse, tooShort, caseOf, checkFault, checkRefusal, checked, checkAnswer}
+use Rattle.semantics.specs.Operations.{orElse, refuseUnless, tooShort, caseOf, checkFault, checkRefusal, checked, checkAnswer}
 use Rattle.semantics.specs.Values.{pairCount}
 use Rattle.semantics.proofs.Refusing.{orElse-next, orElse-this, orElse-none, orElse-assoc, unless-none}
 use Rattle.checker.specs.Codes.{proposalFault}
@@ -22,6 +23,11 @@ use Rattle.judge.specs.Checked.{shortCheck}
 use Rattle.semantics.specs.Answered.{refusedChecked}
 use Rattle.pairs.proofs.Answered.{pairs-in}
 use Rattle.judge.proofs.Parsed.{parsed-refusal, parsed-case}
+
+-- 10, then 11
+pub short-checked : (counts : Counts) (values levels : ℕ) {v l r : Refusal} → v ≡ refuseUnless (leb (counts .shapes * counts .nodes) values) 10 (counts .shapes * counts .nodes)
+    → l ≡ refuseUnless (leb (2 * (counts .shapes * counts .nodes)) levels) 11 (2 * (counts .shapes * counts .nodes)) → r ≡ orElse v l → r ≡ shortCheck counts values levels
+short-checked counts values levels e f g = g ∙ ap₂ orElse e f
 
 module _ {s : List ℕ} {p : Parsed} {rows : List ℕ} (values levels : List ℕ) {short r : Refusal} (h : ParsedAs s p rows)
     (q : short ≡ shortCheck (p .counts) (length values) (length levels)) (e : r ≡ orElse (p .refusal) short) where

@@ -19,7 +19,7 @@ use Rattle.semantics.specs.Operations.{orElse, refuseUnless, tooShort, counted,
 use Rattle.semantics.proofs.Refusing.{orElse-next, orElse-this, orElse-none, orElse-assoc, unless-none, written-refused}
 use Rattle.strata.specs.Ranks.{RankedAs}
 use Rattle.strata.specs.declared.ranks.Ranks.{Ranks}
-use Rattle.judge.specs.Ranked.{CaseRanked}
+use Rattle.judge.specs.Equations.{CaseRanked}
 use Rattle.semantics.specs.Answered.{rankedBy}
 use Rattle.judge.proofs.Parsed.{parsed-refusal, parsed-case}
 

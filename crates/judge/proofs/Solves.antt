@@ -22,9 +22,11 @@ use Rattle.semantics.specs.declared.answers.Tally.{Tally}
 use Rattle.semantics.specs.Operations.{orElse, refuseUnless, tooShort, counted, solution, solveFault, solveRefusal, solveAnswer, solveValues, solveLevels, solveVerdicts}
 use Rattle.semantics.specs.Solving.{solvedValues, valuesOf, verdicts}
 use Rattle.semantics.proofs.Refusing.{orElse-none, unless-none, written-refused}
-use Rattle.settling.specs.Settled.{LevelsSettled}
+use Rattle.settling.specs.Settled.{Settled}
+use Rattle.settling.specs.declared.tasks.Task.the-variants.{Levels}
 use Rattle.solver.specs.Rounding.{SetsSolved}
-use Rattle.judge.specs.Solved.{SolvedAs, NumberedAs, shortSolve, SolveRoom, CaseSolved}
+use Rattle.judge.specs.Equations.{SolvedAs, NumberedAs}
+use Rattle.judge.specs.Solved.{shortSolve, SolveRoom, CaseSolved}
 use Rattle.pairs.proofs.Answered.{pairs-in}
 use Rattle.judge.proofs.Parsed.{parsed-refusal, parsed-case, targets-count}
 
@@ -89,14 +91,14 @@ module _ (counts : Counts) (rows : List ℕ) {valid possible : List ℕ} where
   values-solved k = ap₂ (valuesOf (caseIn counts rows)) (k .valid-set) (k .possible-set)
 
 module _ {counts : Counts} {rows valid possible : List ℕ} where
-  pub case-solved : {levels levels′ values values′ verdict verdict′ : List ℕ} {rounds : ℕ} {t : Tally} {r : Solution} → LevelsSettled counts rows levels valid possible levels′ rounds
-      → AnswersWritten counts rows valid possible values verdict t values′ verdict′ → r ≡ solvedWith rounds t
+  pub case-solved : {valid₀ levels levels′ values values′ verdict verdict′ : List ℕ} {rounds : ℕ} {t : Tally} {r : Solution}
+      → Settled Levels counts rows valid₀ levels valid possible levels′ rounds → AnswersWritten counts rows valid possible values verdict t values′ verdict′ → r ≡ solvedWith rounds t
       → CaseSolved (caseIn counts rows) values levels verdict r values′ levels′ verdict′
   unfolding solution counted verdicts
   case-solved k a e =
-      let solved = values-solved counts rows (k .sets) in
+      let solved = values-solved counts rows (k .sets-left) in
       record {
-        answer = e ∙ rw (k .sets .counted, a .tallied, solved);
+        answer = e ∙ rw (k .sets-left .counted, a .tallied, solved);
         values-left = rw solved at (a .values-left);
         levels-left = k .levels-left;
         verdicts-left = rw solved at (a .verdicts-left);

@@ -1,4 +1,4 @@
--- The equations of solving's entry points, and what their inner functions ask and leave.
+-- The equations of solving's and ranking's entry points, and what their inner functions ask and leave.
+pub mod Equations
 pub mod Solved
 pub mod Checked
-pub mod Ranked

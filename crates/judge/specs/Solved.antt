@@ -1,5 +1,4 @@
--- Solving's equation: the answer and the final contents of the three tables, on refusal too; and its parts for a case that was read.
--- Assumes nothing.
+-- Solving, for a case that was read: what is refused by the lengths of the tables, and what is left. Assumes nothing.
 use Prim.Native.Nat.{ℕ, _*_, _≤_}
 use mathlib.Core.Path.{_≡_}
 use mathlib.Core.List.{List}
@@ -12,22 +11,7 @@ use Rattle.cases.specs.declared.counts.Counts.{Counts}
 use Rattle.semantics.specs.declared.answers.Solution.{Solution}
 use Rattle.semantics.specs.Solving.{solvedValues, solvedLevels}
 use Rattle.semantics.specs.Solving.{verdicts as verdictsOf}
-use Rattle.semantics.specs.Operations.{orElse, refuseUnless, written, levelBytes, solution, solveAnswer, solveValues, solveLevels, solveVerdicts}
-
-pub record SolvedAs (s values levels verdicts : List ℕ) (r : Solution) (values′ levels′ verdicts′ : List ℕ) : Type 0 where
-  pub answer : r ≡ solveAnswer s values levels verdicts
-  pub values-left : values′ ≡ solveValues s values levels verdicts
-  pub levels-left : levels′ ≡ solveLevels s values levels verdicts
-  pub verdicts-left : verdicts′ ≡ solveVerdicts s values levels verdicts
-
--- with the refusal number alone
-pub record NumberedAs (s values levels verdicts : List ℕ) (number : ℕ) (values′ levels′ verdicts′ : List ℕ) : Type 0 where
-  pub answer : number ≡ solveAnswer s values levels verdicts .number
-  pub values-left : values′ ≡ solveValues s values levels verdicts
-  pub levels-left : levels′ ≡ solveLevels s values levels verdicts
-  pub verdicts-left : verdicts′ ≡ solveVerdicts s values levels verdicts
-
--- ---- Its parts
+use Rattle.semantics.specs.Operations.{orElse, refuseUnless, written, levelBytes, solution}
 
 -- 10, 11 and 12, by the lengths of the tables
 abbrev pub shortSolve : Counts → ℕ → ℕ → ℕ → Refusal

@@ -1,4 +1,4 @@
-// Checking a proposal: refusals 1 to 11, 13, 14, 15, else the undetermined pairs and the valid targets. Nothing is written.
+// Checking a proposal: reading's refusals, 10, 11, 13, 14, 15, else the undetermined pairs and the valid targets. Nothing is written.
 use cases::answers::Refusal;
 use cases::counts::Counts;
 use checker::checking::Code;
@@ -18,10 +18,9 @@ fn short_tables(counts: Counts, values: usize, levels: usize) -> Refusal
     ensures { λ r. ⌜ r ≡ shortCheck counts values levels ⌝ }
 {
     let pairs = counts.shapes * counts.nodes;
-    or_else(
-        too_short(10, pairs, values),
-        too_short(11, 2 * pairs, levels),
-    )
+    let values_short = too_short(10, pairs, values);
+    let levels_short = too_short(11, 2 * pairs, levels);
+    or_else(values_short, levels_short)
 }
 
 // Checks a proposal: a case of any bytes, and a value and a level table of any bytes and lengths.

@@ -24,8 +24,7 @@ ghost use Rattle.semantics.specs.OldCode.{oldAnswer};
 ghost use Rattle.semantics.specs.Operations.{checkAnswer};
 ghost use Rattle.semantics.specs.Totals.{totalsAnswer};
 ghost use Rattle.semantics.specs.Unfinished.{begun, advanceAnswer, asked};
-ghost use Rattle.judge.specs.Solved.{SolvedAs, NumberedAs};
-ghost use Rattle.judge.specs.Ranked.{CaseRanked};
+ghost use Rattle.judge.specs.Equations.{SolvedAs, NumberedAs, CaseRanked};
 
 // Solves, for the crew desk: the refusal number, 0 for none.
 #[no_mangle]

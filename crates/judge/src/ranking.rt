@@ -1,10 +1,10 @@
-// Ranking shapes by denial: refusals 1 to 9, 16, 17, else a byte for each shape and the number of strata.
+// Ranking shapes by denial: reading's refusals, 16, 17, else a byte for each shape and the number of strata.
 use reader::reading::parse;
 use semantics::answers::Ranked;
 use semantics::refusals::or_else;
 use semantics::refusals::too_short;
 use strata::ranks::rank_shapes;
-ghost use Rattle.judge.specs.Ranked.{CaseRanked};
+ghost use Rattle.judge.specs.Equations.{CaseRanked};
 
 // Ranks the shapes of a case of any bytes, into a table of any length.
 pub fn rank(case: &[u8], strata: &mut [u8]) -> Ranked

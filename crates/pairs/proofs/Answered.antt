@@ -19,15 +19,24 @@ use Rattle.cases.specs.declared.counts.Counts.{Counts}
 use Rattle.cases.proofs.InRows.{nodes-in, shapes-in, targets-in}
 use Rattle.semantics.specs.declared.answers.Tally.{Tally}
 use Rattle.semantics.specs.Answered.{tallyOf}
-use Rattle.semantics.specs.Operations.{written}
+use Rattle.semantics.specs.Operations.{written, tally}
 use Rattle.semantics.specs.Solving.{targetValues}
 use Rattle.semantics.specs.Values.{pairCount, pairOf}
 use Rattle.semantics.proofs.Pairs.{pair-below}
 use Rattle.semantics.proofs.Solved.{values-length}
 use Rattle.pairs.specs.Sets.{setIn}
-use Rattle.pairs.specs.Values.{valuesIn, valuesBy, ValuesWritten, VerdictsWritten, AnswersWritten}
+use Rattle.pairs.specs.Values.{valuesIn, valuesBy, nodeValues, nodeTotals, ValuesWritten, VerdictsWritten, AnswersWritten}
 use Rattle.pairs.proofs.Sets.{has-setIn}
 use Rattle.pairs.proofs.Valued.{values-are}
+
+-- the counts of an answer, one by one
+pub tallied : (values verdicts : List ℕ) {v u s o i : ℕ} → v ≡ tally 2 values → u ≡ tally 1 values → s ≡ tally 2 verdicts → o ≡ tally 1 verdicts → i ≡ tally 0 verdicts
+    → record { valid = v; undetermined = u; sure = s; «open» = o; impossible = i } ≡ tallyOf values verdicts
+tallied values verdicts a b c d e = rw (a, b, c, d, e)
+
+pub totals-tallied : (counts : Counts) (a : ℕ) (valid possible : List ℕ) {v u : ℕ} → v ≡ tally 2 (nodeValues counts a valid possible) → u ≡ tally 1 (nodeValues counts a valid possible)
+    → record { number = 0; place = 0; valid = v; undetermined = u } ≡ nodeTotals counts a valid possible
+totals-tallied counts a valid possible e f = rw (e, f)
 
 -- the values in the tables are those of the sets that they hold
 pub values-by : (counts : Counts) (rows valid possible : List ℕ) → valuesIn counts valid possible ≡ valuesBy counts rows valid possible

@@ -32,7 +32,7 @@ use Rattle.cases.specs.Rows.{edgeIn, caseIn, Full}
 use Rattle.cases.proofs.Expansion.{length-rules, length-freshRules, length-expansion, freshCount-more, rules-more, freshRules-more}
 use Rattle.cases.proofs.InRows.{counts-in, limited-fit}
 use Rattle.cases.proofs.Profiles.{shapes-at-most}
-use Rattle.cases.proofs.Sound.{SoundSoFar, profile-pass, last-pass, start-sound, sound-pass, afterEnd-none, below, outcome-sound, outcome-limited}
+use Rattle.cases.proofs.Sound.{SoundSoFar, profile-pass, last-pass, start-sound, sound-pass, afterEnd-none, outcome-sound, outcome-limited}
 use Rattle.cases.proofs.Steps.{EntryShows, Shows, Admitted, GoodShows, found-shows, HeadingShows, heading-shows}
 use Rattle.parts.specs.Expanding.{withShapes, ExpandedAs}
 use Rattle.parts.specs.Tables.{rulesIn, namedIn}
@@ -322,7 +322,7 @@ module _ {s : List ℕ} {at : ℕ} {reached : Reached} {rows fresh named : List 
   }
 
   module _ (h : at < length s) {finding : Finding} {fresh′ named′ : List ℕ} (f : FoundAs (take (length s - at) (drop at s)) at reached rows fresh named finding fresh′ named′) where
-    step-is : {step : Step} → finding .step ≡ step → StepIs (foundAt (g .progress) (drop at s)) at reached fresh named step (finding .fresh) (finding .noted) fresh′ named′
+    pub step-is : {step : Step} → finding .step ≡ step → StepIs (foundAt (g .progress) (drop at s)) at reached fresh named step (finding .fresh) (finding .noted) fresh′ named′
     unfolding foundAt
     step-is e = rw (← e, ← take-rest s at) (rw edges-are at (f .found .is (g .progress) stands))
 
@@ -443,7 +443,7 @@ module _ {s : List ℕ} {at : ℕ} {reached : Reached} {rows fresh named : List 
         -- where nothing is at fault, names are written shapes, and fresh ones get their numbers
         expanded-is : {counts′ : Counts} {rows′ : List ℕ} → afterEnd s (at + 1) (g .progress) .number ≡ 0 → ExpandedAs (reached .counts) fresh′ (reached .fresh) rows counts′ rows′
             → caseIn counts′ rows′ ≡ expanded (g .progress)
-        unfolding expanded drafted countsSoFar below
+        unfolding expanded drafted countsSoFar
         expanded-is z x =
             let p = g .progress in
             let w = length (p .written) in

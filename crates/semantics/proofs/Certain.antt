@@ -1,10 +1,36 @@
--- What is certain of a pair, by its value and whether the end is reached. Assumes nothing.
-use Prim.Native.Nat.{ℕ, _<_, _≤_}
-use mathlib.Core.Path.{_≡_}
+-- The value that a byte of a state stands for, and what is certain of a pair, by its value and whether the end is reached. Assumes nothing.
+use Prim.Native.Nat.{ℕ, _<_, _≤_, min}
+use native.Mathlib.Omega.{arith}
+use mathlib.Core.Path.{_≡_, sym, ap, _∙_}
 use mathlib.Core.Bool.{Bool, true, false}
-use borrow.Author.Tests.{le-leb, lt-leb, eq-eqb, ne-eqb}
+use lib.Dec.{leb}
+use borrow.Author.Tests.{le-leb, lt-leb, leb-true, leb-false, eq-eqb, ne-eqb}
+use Rattle.fixpoint.proofs.Lists.{by-test}
+use Rattle.semantics.specs.Values.{byteSays}
+use Rattle.semantics.specs.declared.value.Value.{Value}
+use Rattle.semantics.specs.declared.value.Said.{Said}
+use Rattle.semantics.specs.declared.value.Said.the-variants.{Is, Above}
 use Rattle.semantics.specs.Unfinished.{certainty}
 use Rattle.semantics.specs.declared.ongoing.Certainty.the-variants.{Impossible, Open, Sure, NotYet}
+
+-- a byte that says a value stands for it, one that says none for 2
+abbrev stands : Said → ℕ
+stands (Is v) = v .0
+stands Above = 2
+
+held : (b : ℕ) → stands (byteSays b) ≡ min b 2
+unfolding byteSays
+held b =
+    by-test (leb b 2)
+    (λ h. let few = leb-true b 2 h in rw h (omega arith))
+    (λ h. let more = leb-false b 2 h in rw h (omega arith))
+
+module _ (b : ℕ) {said : Said} (e : said ≡ byteSays b) where
+  pub held-said : {v : Value} → said ≡ Is v → v .0 ≡ min b 2
+  held-said f = sym (ap stands f) ∙ ap stands e ∙ held b
+
+  pub held-above : said ≡ Above → 2 ≡ min b 2
+  held-above f = sym (ap stands f) ∙ ap stands e ∙ held b
 
 module _ (v : ℕ) (over : Bool) where
   pub sure-said : 2 ≤ v → Sure ≡ certainty v over

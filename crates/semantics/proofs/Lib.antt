@@ -1,6 +1,7 @@
 -- The laws of a case's meaning and the theorems about levels, stability, solving, denial and document 02's points.
 pub mod Pairs
 pub mod Nesting
+pub mod Extending
 pub mod Parking
 pub mod Kernel
 pub mod Thresholds

@@ -1,5 +1,5 @@
--- What a case means, in the order of document 01: paths, values, levels and stability, solving, denial, the four operations, totals by
--- fitting, the old code, and unfinished solves.
+-- What a case means, in the order of document 01: paths, values, levels and stability, solving, denial, the four operations; then
+-- document 02's points: rules inside rules, parked edges, totals by fitting, the old code, unfinished solves. And what inner functions answer.
 pub mod Paths
 pub mod Values
 pub mod Nested

@@ -64,7 +64,7 @@ levelsIn n bytes = map (λ k. getD bytes (2 * k) 0 + 256 * getD bytes (2 * k + 1
 unfoldable pub caseOf : List ℕ → Case
 caseOf s = outcome s .case
 
--- ---- Solving: 1 to 9, then 10, 11 and 12
+-- ---- Solving: reading's, then 10, 11 and 12
 
 unfoldable pub solveFault : Case → List ℕ → List ℕ → List ℕ → Refusal
 solveFault c valueTable levelTable verdictTable =
@@ -106,7 +106,7 @@ unfoldable pub solveVerdicts : List ℕ → List ℕ → List ℕ → List ℕ �
 solveVerdicts s valueTable levelTable verdictTable =
     written (solveRefusal s valueTable levelTable verdictTable) (verdicts (caseOf s)) verdictTable
 
--- ---- Checking: 1 to 11, then 13, then pair by pair 14 and 15
+-- ---- Checking: reading's, then 10, 11 and 13, then pair by pair 14 and 15
 
 -- 13: the first pair whose byte says no value
 unfoldable pub valueFault : Case → List ℕ → Refusal
@@ -140,7 +140,7 @@ checked r c valueTable =
 unfoldable pub checkAnswer : List ℕ → List ℕ → List ℕ → Checked
 checkAnswer s valueTable levelTable = checked (checkRefusal s valueTable levelTable) (caseOf s) valueTable
 
--- ---- Ranking: 1 to 9, then 16 and 17
+-- ---- Ranking: reading's, then 16 and 17
 
 -- 17: the lowest shape that depends on its own denial
 unfoldable pub denialFault : Case → Refusal

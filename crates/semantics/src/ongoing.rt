@@ -1,5 +1,8 @@
 // A solve that is not finished, as a state by value: its own copy of the case and the value of each pair so far; and what its calls answer.
+use crate::value::Said;
+use crate::value::Value;
 ghost use mathlib.Core.Path.{_≡_};
+ghost use Prim.Native.Nat.{min};
 ghost use Rattle.semantics.specs.Unfinished.{certainty, replyNumber};
 
 // The values: 2 in the last T, 0 outside the last P worked out, else 1. `over` is 0 until the end is reached.
@@ -45,14 +48,24 @@ pub enum Certainty {
     NotYet,
 }
 
-// By the value of a pair so far, and whether the end is reached.
-pub fn certainty_of(value: u8, over: bool) -> Certainty
-    ensures { λ r. ⌜ r ≡ certainty value over ⌝ }
+// The value that a byte of a state stands for. A byte above 2, which no call writes, is as good as 2.
+pub fn held_value(byte: u8) -> Value
+    ensures { λ r. ⌜ r .0 ≡ min byte 2 ⌝ }
 {
-    if 2 <= value {
+    match Value::of_byte(byte) {
+        Said::Is(value) => value,
+        Said::Above => Value::VALID,
+    }
+}
+
+// By the value of a pair so far, and whether the end is reached.
+pub fn certainty_of(value: Value, over: bool) -> Certainty
+    ensures { λ r. ⌜ r ≡ certainty (value .0) over ⌝ }
+{
+    if 2 <= value.0 {
         return Certainty::Sure;
     }
-    if value == 0 {
+    if value.0 == 0 {
         return Certainty::Impossible;
     }
     if over {

@@ -7,3 +7,4 @@ pub mod Totals
 pub mod OldCode
 pub mod Unfinished
 pub mod Profiles
+pub mod Parking

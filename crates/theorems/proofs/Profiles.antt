@@ -17,7 +17,7 @@ use Rattle.semantics.specs.Unfinished.{firstStateWith, firstState, heldInput, b
 use Rattle.semantics.specs.Values.{pairCount}
 use Rattle.semantics.specs.declared.ongoing.Unfinished.{Unfinished}
 use Rattle.theorems.specs.Demands.{Reads}
-use Rattle.theorems.specs.Profiles.{AnsweredAlike}
+use Rattle.theorems.specs.Profiles.{beginning, AnsweredAlike}
 use Rattle.theorems.specs.Unfinished.{after, solving, heldBy}
 use Rattle.theorems.proofs.Unfinished.{copy-whole}
 
@@ -25,6 +25,15 @@ use Rattle.theorems.proofs.Unfinished.{copy-whole}
 case-alike : (s t : List ℕ) → outcome s ≡ outcome t → caseOf s ≡ caseOf t
 unfolding caseOf
 case-alike s t e = ap (λ (o : Outcome). o .case) e
+
+reading-alike : (s t : List ℕ) → outcome s ≡ outcome t → reading s ≡ reading t
+unfolding reading
+reading-alike s t e = rw e
+
+-- "Beginning answers and refuses as reading does"
+pub begins-as-read : (s : List ℕ) → beginning (begun s) ≡ reading s
+unfolding begun reading
+begins-as-read s = refl
 
 -- unfinished solves: the cases that they hold are the same, and so is where they stand
 record Standing (u v : Unfinished) : Type 0 where
@@ -63,9 +72,9 @@ module _ (s t : List ℕ) (e : outcome s ≡ outcome t) where
   advances-alike i = rw (standing-alike (suc i) .over)
 
 pub read-alike : (s t : List ℕ) → outcome s ≡ outcome t → AnsweredAlike s t
-unfolding reading solveRefusal solveAnswer solveValues solveLevels solveVerdicts checkRefusal checkAnswer oldRefusal oldAnswer rankRefusal rankAnswer rankStrata totalsRefusal totalsAnswer
+unfolding solveRefusal solveAnswer solveValues solveLevels solveVerdicts checkRefusal checkAnswer oldRefusal oldAnswer rankRefusal rankAnswer rankStrata totalsRefusal totalsAnswer
 read-alike s t e = record {
-  read = rw e;
+  read = reading-alike s t e;
   solve = λ v l d. rw (e, case-alike s t e);
   values = λ v l d. rw (e, case-alike s t e);
   levels = λ v l d. rw (e, case-alike s t e);
@@ -75,6 +84,7 @@ read-alike s t e = record {
   rank = λ r. rw (e, case-alike s t e);
   strata = λ r. rw (e, case-alike s t e);
   totals = λ a. rw (e, case-alike s t e);
+  begin = begins-as-read s ∙ reading-alike s t e ∙ sym (begins-as-read t);
   advance = advances-alike s t e;
   ask = replies-alike s t e;
 }

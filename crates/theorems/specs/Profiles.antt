@@ -3,11 +3,26 @@ use Prim.Native.Nat.{ℕ}
 use mathlib.Core.Path.{_≡_}
 use mathlib.Core.List.{List}
 use Rattle.cases.specs.Reading.{reading}
+use Rattle.cases.specs.declared.answers.Reading.{Reading}
 use Rattle.semantics.specs.OldCode.{oldAnswer}
 use Rattle.semantics.specs.Operations.{solveAnswer, solveValues, solveLevels, solveVerdicts, checkAnswer, rankAnswer, rankStrata}
 use Rattle.semantics.specs.Totals.{totalsAnswer}
-use Rattle.semantics.specs.Unfinished.{advanceAnswer, asked}
+use Rattle.semantics.specs.Unfinished.{begun, advanceAnswer, asked}
+use Rattle.semantics.specs.declared.ongoing.Begun.{Begun}
 use Rattle.theorems.specs.Unfinished.{solving}
+
+-- number, place and counts of a beginning, which its state comes with
+abbrev pub beginning : Begun → Reading
+beginning b =
+    record {
+      number = b .number;
+      place = b .place;
+      nodes = b .nodes;
+      edges = b .edges;
+      paths = b .paths;
+      shapes = b .shapes;
+      targets = b .targets;
+    }
 
 -- whatever tables are lent, the answers and what is written are the same
 pub record AnsweredAlike (s t : List ℕ) : Type 0 where
@@ -21,6 +36,7 @@ pub record AnsweredAlike (s t : List ℕ) : Type 0 where
   pub rank : (r : List ℕ) → rankAnswer s r ≡ rankAnswer t r
   pub strata : (r : List ℕ) → rankStrata s r ≡ rankStrata t r
   pub totals : (a : ℕ) → totalsAnswer s a ≡ totalsAnswer t a
-  -- unfinished solves after any number of advances: whether the next one reaches the end, and each reply
+  -- unfinished solves: what beginning answers; and after any number of advances whether the next one reaches the end, and each reply
+  pub begin : beginning (begun s) ≡ beginning (begun t)
   pub advance : (i : ℕ) → advanceAnswer (solving s i) .over ≡ advanceAnswer (solving t i) .over
   pub ask : (i pair : ℕ) → asked (solving s i) pair ≡ asked (solving t i) pair

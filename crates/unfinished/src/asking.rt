@@ -3,6 +3,7 @@ use semantics::ongoing::Certainty;
 use semantics::ongoing::Reply;
 use semantics::ongoing::Unfinished;
 use semantics::ongoing::certainty_of;
+use semantics::ongoing::held_value;
 use semantics::ongoing::reply_number;
 ghost use mathlib.Core.Path.{_≡_};
 ghost use lib.ListN.{getD};
@@ -18,7 +19,7 @@ fn byte_at(bytes: &[u8], at: usize) -> u8
 fn certain_of(u: Unfinished, pair: usize) -> Certainty
     ensures { λ r. ⌜ r ≡ certainOf u pair ⌝ }
 {
-    certainty_of(byte_at(&u.values, pair), u.over != 0)
+    certainty_of(held_value(byte_at(&u.values, pair)), u.over != 0)
 }
 
 // What is certain of a pair, by any number, in a state of any contents.

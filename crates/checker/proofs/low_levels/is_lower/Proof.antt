@@ -1,10 +1,11 @@
 -- `checker::low_levels::is_lower` meets its contract. Assumes nothing.
 use borrow.Author.Needs.{needs}
+use Rattle.checker.proofs.Lowered.{lower-said}
 use Rattle.checker.proofs.low_levels.is_lower.Statement.{statement}
 use Rattle.checker.proofs.low_levels.is_lower.Tie as tie
 
 returns : tie.Need-returns
-returns c = cc
+returns c = search lower-said
 
 pub is-lower-spec : {M : Type 1} → statement M
 is-lower-spec = tie.close (tie.spec (λ c. search needs) (λ c. search needs) (λ c κs. search needs) returns)

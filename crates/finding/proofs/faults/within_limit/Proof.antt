@@ -16,7 +16,7 @@ within-limit-spec =
     (λ c. search needs)
     (λ c. search needs)
     (λ c. cc)
-    (λ c. cc)
+    (λ c. rw (c .before .enum-told .given .1))
     (λ c. cc)
     (λ c. cc)
     (λ c. cc)

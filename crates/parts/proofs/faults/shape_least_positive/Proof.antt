@@ -22,4 +22,4 @@ shape-least-positive-spec =
     (λ c. cc)
     (λ c. cc)
     (λ c. cc)
-    (λ c. cc))
+    (λ c. rw (c .before .rule .given .1)))

@@ -8,4 +8,4 @@ returns : tie.Need-returns
 returns c = search certain-said
 
 pub certain-of-spec : {M : Type 1} → statement M
-certain-of-spec = tie.close (tie.spec (λ c κs. search needs) (λ c κs. search needs) returns)
+certain-of-spec = tie.close (tie.spec (λ c κs. search needs) (λ c κs. search needs) (λ c κs. search needs) returns)
