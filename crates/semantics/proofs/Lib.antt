@@ -2,6 +2,7 @@
 pub mod Pairs
 pub mod Nesting
 pub mod Extending
+pub mod AgreeingCases
 pub mod Parking
 pub mod Kernel
 pub mod Thresholds

@@ -8,13 +8,13 @@ use native.Mathlib.Omega.{arith}
 use mathlib.Core.Path.{_≡_, refl, sym, ap, _∙_, subst}
 use mathlib.Core.Logic.{_↔_}
 use mathlib.Core.Bool.{Bool, true, cond, and-eq-true-iff}
-use mathlib.Core.List.{List, [], _∷_, _++_, map}
+use mathlib.Core.List.{List, [], _∷_, _++_}
 use lib.ListN.{length, getD, length-append, List·getD-append}
 use lib.Seq.{getD-append-add}
 use lib.Dec.{eqb, ltb}
 use borrow.Author.Tests.{eqb-true, eq-eqb, lt-ltb, ltb-true}
 use Rattle.fixpoint.specs.Lists.{upTo, any, all}
-use Rattle.fixpoint.proofs.Lists.{all-upTo-of, all-upTo-in}
+use Rattle.fixpoint.proofs.Lists.{any-of, all-of, all-upTo-of, all-upTo-in}
 use Rattle.cases.specs.declared.command.ShapeRule.{ShapeRule}
 use Rattle.cases.specs.declared.command.ShapeRule.the-variants.{Top, Node, And, Or, Not, Same, All, AtLeast}
 use Rattle.cases.specs.Case.{Case, shapeRule, references}
@@ -22,9 +22,9 @@ use Rattle.cases.specs.Parts.{Part, Named, Plain, Around, Joining, filled, size
 use Rattle.cases.specs.Parts.{rules, freshRules, freshCount, expansion}
 use Rattle.cases.proofs.Expansion.{length-fresh, length-inside, length-rules}
 use Rattle.semantics.specs.Nested.{partValue, opens, opensInside, deeper}
-use Rattle.semantics.specs.Paths.{fillers}
 use Rattle.semantics.specs.Values.{pairCount, pairOf, shapeOf, nodeOf, entryAt, ruleValue, pairValue, valued, supportedAt, supported}
-use Rattle.semantics.proofs.Kernel.{fillers-pass, first-of, second-of}
+use Rattle.semantics.proofs.AgreeingCases.{AlikeAt, value-alike}
+use Rattle.semantics.proofs.Kernel.{fillers-pass}
 use Rattle.semantics.proofs.Pairs.{pair-below, shape-below, node-below, pair-of-parts, shape-of-pair, node-of-pair, every-pair-by-its-rule}
 
 -- ---- As many parts open as there are fresh shapes
@@ -53,30 +53,23 @@ length-deeper (x ∷ l) = length-append (opensInside x) (deeper l) ∙ rw (lengt
 max-same : (x : ℕ) → max x x ≡ x
 max-same x = omega arith
 
-map-where : (f g : ℕ → ℕ) (t : ℕ → Bool) (l : List ℕ) → all l t ≡ true → ((b : ℕ) → t b ≡ true → f b ≡ g b) → map f l ≡ map g l
-unfolding all
-map-where f g t [] h e = refl
-map-where f g t (x ∷ l) h e = let both = and-eq-true-iff (t x) (all l t) .0 h in rw (e x (both .0), map-where f g t l (both .1) e)
+-- each number of a list is in it
+each-itself : (l : List ℕ) → all l (λ s. any l (λ t. eqb t s)) ≡ true
+each-itself l = all-of l _ 0 (λ i h. any-of l _ i 0 h (eq-eqb (getD l i 0) (getD l i 0) refl))
 
 module _ (c : Case) where
-  -- fillers are nodes
-  fillers-agree : (f g : ℕ → ℕ) (p a : ℕ) → ((b : ℕ) → b < c .nodes → f b ≡ g b) → map f (fillers c p a) ≡ map g (fillers c p a)
-  fillers-agree f g p a e =
-      let node : ℕ → Bool = λ b. ltb b (c .nodes) in
-      map-where f g node (fillers c p a) (fillers-pass c p a node (λ b. lt-ltb b (c .nodes))) (λ b h. e b (ltb-true b (c .nodes) h))
-
-  -- a rule has the same value where its references have the same values at every node
+  -- a rule has the same value where its references have the same values at every node: fillers are nodes
   pub rule-agrees : (u v : ℕ → ℕ → ℕ) (r : ShapeRule) (a : ℕ) → a < c .nodes
       → ((s b : ℕ) → any (references r) (λ t. eqb t s) ≡ true → b < c .nodes → u s b ≡ v s b) → ruleValue c u r a ≡ ruleValue c v r a
-  unfolding ruleValue references
-  rule-agrees u v Top a h e = refl
-  rule-agrees u v (Node b) a h e = refl
-  rule-agrees u v (And s t) a h e = rw (e (s .0) a (first-of (s .0) (t .0 ∷ [])) h, e (t .0) a (second-of (s .0) (t .0)) h)
-  rule-agrees u v (Or s t) a h e = rw (e (s .0) a (first-of (s .0) (t .0 ∷ [])) h, e (t .0) a (second-of (s .0) (t .0)) h)
-  rule-agrees u v (Not s) a h e = rw (e (s .0) a (first-of (s .0) []) h)
-  rule-agrees u v (Same p q) a h e = refl
-  rule-agrees u v (All p s) a h e = rw (fillers-agree (u (s .0)) (v (s .0)) (p .0) a (λ b. e (s .0) b (first-of (s .0) [])))
-  rule-agrees u v (AtLeast n p s) a h e = rw (fillers-agree (u (s .0)) (v (s .0)) (p .0) a (λ b. e (s .0) b (first-of (s .0) [])))
+  rule-agrees u v r a h e =
+      let node : ℕ → Bool = λ b. ltb b (c .nodes) in
+      let here : AlikeAt c c node a = record {
+        itself = lt-ltb a (c .nodes) h;
+        passing = λ p. fillers-pass c p a node (λ b l k. lt-ltb b (c .nodes) l);
+        lists = λ p. refl;
+        sames = λ p q. refl;
+      } in
+      value-alike here u v r (each-itself (references r)) (λ s b i l. e s b i (ltb-true b (c .nodes) l))
 
   -- with other shape operands it has the value that it has where these have the operands' values: one for all, or two
   filled-with : (v : ℕ → ℕ → ℕ) (r : ShapeRule) (s a : ℕ) → ruleValue c v (filled r s s) a ≡ ruleValue c (λ _ b. v s b) r a

@@ -1,98 +1,64 @@
 -- Parked edges: everything above a lookup depends on the edges by what the lookup answers, and what parking does to that. Document 02, point 4.
 -- Assumes nothing.
-use Prim.Native.Nat.{ℕ, zero, suc}
+use Prim.Native.Nat.{ℕ}
 use mathlib.Core.Path.{_≡_, refl, sym, ap, _∙_}
-use mathlib.Core.Bool.{Bool, true, false, _&&_, _||_, Bool·beq, and-eq-true-iff, and-false, and-true, or-false, false≢true}
+use mathlib.Core.Bool.{Bool, true, false, _&&_, _||_, and-eq-true-iff, and-false, and-true, or-false, false≢true}
 use mathlib.Core.List.{List, [], _∷_, _++_}
 use lib.Dec.{eqb}
 use borrow.Author.Tests.{eqb-true}
-use Rattle.fixpoint.specs.Lists.{upTo, any, all, keep}
-use Rattle.fixpoint.specs.Sets.{has, collect}
-use Rattle.fixpoint.specs.Stages.{reach, rest}
-use Rattle.fixpoint.proofs.Lists.{by-test, any-append}
-use Rattle.cases.specs.Case.{Case, edgeIs, pathRule, shapeRule}
+use Rattle.fixpoint.specs.Lists.{any, all}
+use Rattle.fixpoint.proofs.Agreeing.{alike-everywhere}
+use Rattle.fixpoint.proofs.Lists.{by-test, any-append, all-of}
+use Rattle.cases.specs.Case.{Case, edgeIs, shapeRule, references}
 use Rattle.cases.specs.Sound.{recorded, Recorded}
 use Rattle.cases.specs.declared.command.Edge.{Edge}
-use Rattle.cases.specs.declared.command.PathRule.{PathRule}
-use Rattle.cases.specs.declared.command.PathRule.the-variants.{Forward, Backward, Union, Sequence, Star}
-use Rattle.cases.specs.declared.command.ShapeRule.{ShapeRule}
-use Rattle.cases.specs.declared.command.ShapeRule.the-variants.{Top, Node, And, Or, Not, Same, All, AtLeast}
 use Rattle.semantics.specs.Parking.{withEdges, linkedBefore, Alike}
-use Rattle.semantics.specs.Paths.{live, linked, ruleFills, fillsWithin, fills, fillers, sameFillers}
+use Rattle.semantics.specs.Paths.{linked}
 use Rattle.semantics.specs.Solving.{solvedT, solvedP, rounds, valuesOf, solvedValues, greatestLevel, levelsOf, solvedLevels, targetValues, verdicts}
-use Rattle.semantics.specs.Stability.{holds, inSet, nextSet}
-use Rattle.semantics.specs.Values.{pairCount, pairOf, shapeOf, nodeOf, ruleValue}
+use Rattle.semantics.specs.Stability.{nextSet}
+use Rattle.semantics.specs.Values.{pairCount, pairOf}
+use Rattle.semantics.proofs.AgreeingCases.{AgreeingOn, value-alike, fills-alike, sames-alike, alike-at, next-alike}
+use Rattle.semantics.proofs.Kernel.{rule-system}
 
 -- ---- "What one property's lookup answers changes, and with it each path, each same and each value above."
 
+-- every shape and every node
+abbrev every : ℕ → Bool
+every k = true
+
+every-passes : (l : List ℕ) → all l every ≡ true
+every-passes l = all-of l every 0 (λ i h. refl)
+
 module _ (c : Case) (edges : List Edge) (lookup : (p a b : ℕ) → linked c p a b ≡ linked (withEdges c edges) p a b) where
-  d : Case
-  d = withEdges c edges
+  -- the two cases agree on all of these
+  agreeing : AgreeingOn c (withEdges c edges) every every
+  unfolding withEdges shapeRule
+  agreeing = record {
+    nodes = refl;
+    paths = refl;
+    shape-count = refl;
+    linked-from = λ p a b h. lookup p a b;
+    linked-to = λ p a b h. lookup p a b;
+    ends = λ p a b h. refl;
+    rules = λ s h e. refl;
+    referred = λ s h e. every-passes (references (shapeRule c s));
+  }
 
-  rule-alike : (R S : ℕ → ℕ → ℕ → Bool) → R ≡ S → (r : PathRule) (a b : ℕ) → ruleFills c R r a b ≡ ruleFills d S r a b
-  unfolding ruleFills d withEdges
-  rule-alike R S e (Forward p) a b = lookup (p .0) a b
-  rule-alike R S e (Backward p) a b = lookup (p .0) b a
-  rule-alike R S e (Union p q) a b = λ i. e i (p .0) a b || e i (q .0) a b
-  rule-alike R S e (Sequence p q) a b = λ i. any (upTo (c .nodes)) (λ m. e i (p .0) a m && e i (q .0) m b)
-  rule-alike R S e (Star p) a b = λ i. has (reach (c .nodes) (e i (p .0)) a) b
-
-  within-alike : (depth : ℕ) → fillsWithin c depth ≡ fillsWithin d depth
-  unfolding fillsWithin d withEdges pathRule
-  within-alike zero = λ i p a b. false
-  within-alike (suc depth) = λ i p a b. rule-alike (fillsWithin c depth) (fillsWithin d depth) (within-alike depth) (pathRule c p) a b i
-
-  fills-alike : fills c ≡ fills d
-  unfolding fills
-  fills-alike = λ i p a b. within-alike (suc p) i p a b
-
-  same-alike : (p q a : ℕ) → sameFillers c p q a ≡ sameFillers d p q a
-  unfolding sameFillers d withEdges
-  same-alike p q a = λ i. all (upTo (c .nodes)) (λ b. Bool·beq (fills-alike i p a b) (fills-alike i q a b))
-
-  fillers-alike : (p a : ℕ) → fillers c p a ≡ fillers d p a
-  unfolding fillers d withEdges
-  fillers-alike p a = λ i. keep (upTo (c .nodes)) (fills-alike i p a)
-
-  value-alike : (v : ℕ → ℕ → ℕ) (r : ShapeRule) (a : ℕ) → ruleValue c v r a ≡ ruleValue d v r a
-  unfolding ruleValue
-  value-alike v Top a = refl
-  value-alike v (Node b) a = refl
-  value-alike v (And s t) a = refl
-  value-alike v (Or s t) a = refl
-  value-alike v (Not s) a = refl
-  value-alike v (Same p q) a = rw (same-alike (p .0) (q .0) a)
-  value-alike v (All p s) a = rw (fillers-alike (p .0) a)
-  value-alike v (AtLeast n p s) a = rw (fillers-alike (p .0) a)
-
-  holds-alike : (Y X : ℕ → ℕ → Bool) (r : ShapeRule) (a : ℕ) → holds c Y X r a ≡ holds d Y X r a
-  unfolding holds
-  holds-alike Y X Top a = refl
-  holds-alike Y X (Node b) a = refl
-  holds-alike Y X (And s t) a = refl
-  holds-alike Y X (Or s t) a = refl
-  holds-alike Y X (Not s) a = refl
-  holds-alike Y X (Same p q) a = same-alike (p .0) (q .0) a
-  holds-alike Y X (All p s) a = rw (fillers-alike (p .0) a)
-  holds-alike Y X (AtLeast n p s) a = rw (fillers-alike (p .0) a)
-
-  next-alike : nextSet c ≡ nextSet d
-  unfolding nextSet live pairCount pairOf shapeOf nodeOf inSet shapeRule d withEdges
-  next-alike =
-      λ i X Y. collect (pairCount c)
-      (λ k. live c (nodeOf c k) && holds-alike (inSet c Y) (inSet c X) (shapeRule c (shapeOf c k)) (nodeOf c k) i)
+  next-same : nextSet c ≡ nextSet (withEdges c edges)
+  unfolding withEdges pairCount
+  next-same = alike-everywhere (λ k. refl) (λ X Y. rule-system c .sized X Y ∙ sym (rule-system (withEdges c edges) .sized X Y)) (next-alike agreeing)
 
   pub alike : Alike c (withEdges c edges)
-  unfolding d withEdges pairCount pairOf solvedT solvedP rounds valuesOf solvedValues greatestLevel levelsOf solvedLevels targetValues verdicts
+  unfolding withEdges pairCount pairOf solvedT solvedP rounds valuesOf solvedValues greatestLevel levelsOf solvedLevels targetValues verdicts
   alike = record {
-    path = λ p a b i. fills-alike i p a b;
-    same = same-alike;
-    value = value-alike;
-    next = next-alike;
-    values = rw next-alike;
-    levels = rw next-alike;
-    round-count = rw next-alike;
-    targets = rw next-alike;
+    path = λ p a b. fills-alike agreeing p .answers a b refl;
+    same = λ p q a. sames-alike agreeing p q a refl;
+    value = λ v r a. value-alike (alike-at agreeing {t = every} (λ b h l. refl) a refl refl) v v r (every-passes (references r)) (λ s b h e. refl);
+    next = next-same;
+    values = rw next-same;
+    levels = rw next-same;
+    round-count = rw next-same;
+    targets = rw next-same;
   }
 
 -- ---- What parking does to a lookup

@@ -89,7 +89,7 @@ value-at-most c v (All p s) a ha small = smallest-at-most 2 (map (v (s .0)) (fil
 value-at-most c v (AtLeast n p s) a ha small =
     nthLargest-at-most n 2 (map (v (s .0)) (fillers c (p .0) a))
     (all-map (v (s .0)) (fillers c (p .0) a) (λ x. not (leb 3 x))
-    ∙ fillers-pass c (p .0) a (λ b. not (leb 3 (v (s .0) b))) (λ b h. ap not (lt-leb 3 (v (s .0) b) (omega (arith, small (s .0) b (first-of (s .0) []) h)))))
+    ∙ fillers-pass c (p .0) a (λ b. not (leb 3 (v (s .0) b))) (λ b h k. ap not (lt-leb 3 (v (s .0) b) (omega (arith, small (s .0) b (first-of (s .0) []) h)))))
 
 -- the n-th smallest of what was kept is below k if n of the elements pass and are below k; for or (n = 1) and at least
 kept-below : (n k : ℕ) (l : List ℕ) (t : ℕ → Bool) (f : ℕ → ℕ) → 1 ≤ n → n ≤ count l t → ltb (nthSmallest n (map f (keep l t))) k ≡ leb n (count l (λ x. t x && ltb (f x) k))
