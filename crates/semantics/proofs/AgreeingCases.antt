@@ -17,7 +17,7 @@ use Rattle.fixpoint.specs.Lists.{upTo, all, keep, count}
 use Rattle.fixpoint.specs.Sets.{has, collect}
 use Rattle.fixpoint.specs.Stages.{RuleSystem}
 use Rattle.fixpoint.proofs.Agreeing.{lower-agrees-at-rest, upper-agrees-at-rest}
-use Rattle.fixpoint.proofs.Lists.{or-cases, and-where, any-ext, any-upTo-in, all-in, all-map, count-map, map-where, made-at}
+use Rattle.fixpoint.proofs.Lists.{or-cases, and-where, any-ext, any-upTo-in, all-in, all-of, all-map, count-map, map-where, made-at}
 use Rattle.fixpoint.proofs.Reach.{reach-alike}
 use Rattle.cases.specs.Case.{Case, pathRule, shapeRule, references}
 use Rattle.cases.specs.declared.command.PathRule.{PathRule}
@@ -43,6 +43,13 @@ pub record AgreeingOn (c d : Case) (w g : ℕ → Bool) : Type 0 where
   -- a shape of w has the same rule in both, and its references are in w
   pub rules : (s : ℕ) → s < length (c .shapes) → w s ≡ true → shapeRule c s ≡ shapeRule d s
   pub referred : (s : ℕ) → s < length (c .shapes) → w s ≡ true → all (references (shapeRule c s)) w ≡ true
+
+-- every shape, or every node
+abbrev pub every : ℕ → Bool
+every k = true
+
+pub every-passes : (l : List ℕ) → all l every ≡ true
+every-passes l = all-of l every 0 (λ i h. refl)
 
 -- the pairs of the shapes of w and the nodes of g
 abbrev pub pairsOf : Case → (ℕ → Bool) → (ℕ → Bool) → ℕ → Bool

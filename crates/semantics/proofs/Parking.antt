@@ -8,7 +8,7 @@ use lib.Dec.{eqb}
 use borrow.Author.Tests.{eqb-true}
 use Rattle.fixpoint.specs.Lists.{any, all}
 use Rattle.fixpoint.proofs.Agreeing.{alike-everywhere}
-use Rattle.fixpoint.proofs.Lists.{by-test, any-append, all-of}
+use Rattle.fixpoint.proofs.Lists.{by-test, any-append}
 use Rattle.cases.specs.Case.{Case, edgeIs, shapeRule, references}
 use Rattle.cases.specs.Sound.{recorded, Recorded}
 use Rattle.cases.specs.declared.command.Edge.{Edge}
@@ -17,17 +17,10 @@ use Rattle.semantics.specs.Paths.{linked}
 use Rattle.semantics.specs.Solving.{solvedT, solvedP, rounds, valuesOf, solvedValues, greatestLevel, levelsOf, solvedLevels, targetValues, verdicts}
 use Rattle.semantics.specs.Stability.{nextSet}
 use Rattle.semantics.specs.Values.{pairCount, pairOf}
-use Rattle.semantics.proofs.AgreeingCases.{AgreeingOn, value-alike, fills-alike, sames-alike, alike-at, next-alike}
+use Rattle.semantics.proofs.AgreeingCases.{every, every-passes, AgreeingOn, value-alike, fills-alike, sames-alike, alike-at, next-alike}
 use Rattle.semantics.proofs.Kernel.{rule-system}
 
 -- ---- "What one property's lookup answers changes, and with it each path, each same and each value above."
-
--- every shape and every node
-abbrev every : ℕ → Bool
-every k = true
-
-every-passes : (l : List ℕ) → all l every ≡ true
-every-passes l = all-of l every 0 (λ i h. refl)
 
 module _ (c : Case) (edges : List Edge) (lookup : (p a b : ℕ) → linked c p a b ≡ linked (withEdges c edges) p a b) where
   -- the two cases agree on all of these
@@ -69,7 +62,7 @@ unfolding linked
 parked-gives-none c p a b h = rw h (and-false (any (c .edges) (edgeIs 0x02 p a b)))
 
 -- an edge command that is one with these operands
-edge-operands : (code p a b : ℕ) (e : Edge) → edgeIs code p a b e ≡ true
+pub edge-operands : (code p a b : ℕ) (e : Edge) → edgeIs code p a b e ≡ true
     → (e .code ≡ code) × (e .property .0 ≡ p) × (e .subject .0 ≡ a) × (e .object .0 ≡ b)
 unfolding edgeIs
 edge-operands code p a b e h =

@@ -1,6 +1,5 @@
 -- Demands 1, 2 and 3 over bytes in and bytes out: what solving and checking answer and leave in the tables. Assumes nothing.
 use Prim.Native.Nat.{ℕ, _+_, _*_, _<_, _≤_}
-use native.Mathlib.Numerals.{add-one}
 use native.Mathlib.Omega.{arith}
 use mathlib.Core.Path.{_≡_, sym, ap, _∙_}
 use mathlib.Core.Logic.{_↔_, Iff·rfl, Iff·trans}
@@ -10,10 +9,9 @@ use lib.ListN.{length, getD, drop, length-append, length-map}
 use lib.Dec.{eqb, leb}
 use borrow.Author.Tests.{leb-true, ltb-true}
 use Rattle.fixpoint.specs.Lists.{all, upTo}
-use Rattle.fixpoint.specs.Stages.{rest}
+use Rattle.fixpoint.specs.Stages.{RoundsCounted}
 use Rattle.fixpoint.proofs.Lists.{getD-map, all-in, all-upTo-in, all-upTo-of}
 use Rattle.fixpoint.proofs.Sets.{collect-ext}
-use Rattle.fixpoint.proofs.Alternating.{rest-equal, rest-first}
 use Rattle.cases.specs.Case.{Case}
 use Rattle.cases.specs.Reading.{profileOf}
 use Rattle.cases.specs.Sound.{Sound, Limited}
@@ -21,19 +19,18 @@ use Rattle.cases.proofs.Sound.{outcome-sound, outcome-limited}
 use Rattle.cases.specs.declared.command.Target.{Target}
 use Rattle.semantics.specs.Values.{pairCount, pairOf, isValue, valued, supportedAt, supported}
 use Rattle.semantics.specs.Levels.{justifiedAt, accepted}
-use Rattle.semantics.specs.Stability.{StableAssignment, EveryStable, nextSet, validSet, possibleSet}
-use Rattle.semantics.specs.Solving.{solvedT, solvedP, solvedValues, solvedLevels, targetValues, verdicts, rounds, levelsOf}
+use Rattle.semantics.specs.Stability.{StableAssignment, EveryStable, validSet, possibleSet}
+use Rattle.semantics.specs.Solving.{roundT, solvedT, solvedP, solvedValues, solvedLevels, targetValues, verdicts, rounds, levelsOf}
 use Rattle.semantics.specs.Denial.{Undenied}
 use Rattle.semantics.specs.Operations.{caseOf, solveRefusal, solveAnswer, solveValues, solveLevels, solveVerdicts, checkRefusal, valueFault}
 use Rattle.semantics.specs.Operations.{pairFault, checkAnswer, levelsIn, levelBytes, solution, solveFault, checked, checkFault}
 use Rattle.semantics.proofs.Pairs.{pair-below}
-use Rattle.semantics.proofs.Kernel.{rule-system}
 use Rattle.semantics.proofs.Levels.{accepted-stable, stable-accepted, levels-small, levels-length}
-use Rattle.semantics.proofs.Solved.{solved-valued, solved-length, solved-stable, solved-valid-set, solved-possible-set, valid-exactly, violated-exactly, rounds-at-most}
+use Rattle.semantics.proofs.Solved.{solved-valued, solved-length, solved-stable, solved-valid-set, solved-possible-set, valid-exactly, violated-exactly, rounds-are-counted, rounds-at-most}
 use Rattle.semantics.proofs.Undenied.{only-solved}
 use Rattle.semantics.proofs.Refusing.{orElse-none, unless-none, refuse-none, short-none, first-none, counted-unrefused}
 use Rattle.semantics.proofs.Refusing.{written-none, written-at, written-refused, length-levelBytes, levels-read-back, levelBytes-bytes}
-use Rattle.theorems.specs.Demands.{Reads, SolvedCase, Untouched, LeadingWritten, AcceptedLevels, pairOfTarget, RoundsCounted}
+use Rattle.theorems.specs.Demands.{Reads, SolvedCase, Untouched, LeadingWritten, AcceptedLevels, pairOfTarget}
 
 pub case-sound : (s : List ℕ) → Sound (caseOf s)
 unfolding caseOf
@@ -169,7 +166,7 @@ module _ (c : Case) (v v′ : List ℕ) (agree : (k : ℕ) → k < pairCount c �
       }
 
 -- Targets: the pair of each is one of the case, and its verdict is that pair's value; nowhere stands for a target past the last
-nowhere : Target
+pub nowhere : Target
 nowhere = record { shape = record { 0 = 0 }; node = record { 0 = 0 } }
 
 target-below : (c : Case) → Sound c → (i : ℕ) → i < length (c .targets) → pairOfTarget c i < pairCount c
@@ -188,11 +185,11 @@ module _ (s vt lt dt : List ℕ) (solved : SolvedCase s vt lt dt) where
   pub solved-reads : Reads s
   solved-reads = solve-none s vt lt dt .0 (solved .number-zero) .0
 
-  value-at : (k : ℕ) → k < pairCount (caseOf s) → getD (solvedValues (caseOf s)) k 0 ≡ getD (solveValues s vt lt dt) k 0
+  pub value-at : (k : ℕ) → k < pairCount (caseOf s) → getD (solvedValues (caseOf s)) k 0 ≡ getD (solveValues s vt lt dt) k 0
   unfolding solveValues solveAnswer solution
   value-at k h = sym (written-at (solveRefusal s vt lt dt) (solvedValues (caseOf s)) vt (solved .number-zero) k (omega (arith, solved-length (caseOf s))))
 
-  target-value : (i : ℕ) → i < length (caseOf s .targets) → getD (solvedValues (caseOf s)) (pairOfTarget (caseOf s) i) 0 ≡ getD (solveVerdicts s vt lt dt) i 0
+  pub target-value : (i : ℕ) → i < length (caseOf s .targets) → getD (solvedValues (caseOf s)) (pairOfTarget (caseOf s) i) 0 ≡ getD (solveVerdicts s vt lt dt) i 0
   unfolding solveVerdicts solveAnswer solution
   target-value i h =
       sym (written-at (solveRefusal s vt lt dt) (verdicts (caseOf s)) dt (solved .number-zero) i (omega (arith, length-verdicts (caseOf s)))
@@ -250,16 +247,8 @@ module _ (s vt lt dt : List ℕ) (solved : SolvedCase s vt lt dt) where
   unfolding solveAnswer solution
   rounds-answered = counted-unrefused (solveRefusal s vt lt dt) (rounds (caseOf s)) (solved .number-zero)
 
-  pub rounds-counted : RoundsCounted (caseOf s) (solveAnswer s vt lt dt .rounds)
-  unfolding rounds
-  rounds-counted =
-      let c = caseOf s in
-      record {
-        i = rest (pairCount c) (nextSet c);
-        rounds-are = rounds-answered;
-        next-equal = rw add-one (rest-equal (pairCount c) (nextSet c) (rule-system c));
-        first = λ j h e. rest-first (pairCount c) (nextSet c) (rule-system c) j h (rw add-one at e);
-      }
+  pub rounds-counted : RoundsCounted (roundT (caseOf s)) (solveAnswer s vt lt dt .rounds)
+  rounds-counted = rw rounds-answered (rounds-are-counted (caseOf s))
 
   pub rounds-bounded : solveAnswer s vt lt dt .rounds ≤ pairCount (caseOf s) + 1
   rounds-bounded = rw rounds-answered (rounds-at-most (caseOf s))

@@ -43,7 +43,7 @@ one-pair v w e (suc k) h = absurd (omega arith)
 samples : AllPass starredSamples × AllPass requestedSamples
 unfolding starredSamples requestedSamples ring vouched oneNode clash notItself orItself twoPaths noFillers nested parked lent smallLevelBytes afterSolving afterRanking
     Lists.from Lists.upTo Lists.any Lists.all Lists.keep Lists.count Lists.largest Lists.insert Lists.sort Lists.nthSmallest
-    Lists.nthLargest Lists.firstFrom
+    Lists.nthLargest Lists.firstFrom Stages.firstRest
     Sets.has Sets.collect Sets.none Sets.same
     Stages.stage Stages.least Stages.firstStep Stages.reach Stages.closure Stages.lower Stages.upper Stages.rest
     Counts.nodeLimit Counts.shapeLimit Case.emptyCase Case.countsOf Case.edgeIs Case.pathRule Case.shapeRule Case.pathsOfPath Case.pathsOfShape Case.references

@@ -23,7 +23,7 @@ use Rattle.semantics.specs.declared.ongoing.Reply.{Reply}
 use Rattle.semantics.specs.declared.ongoing.Certainty.{Certainty}
 use Rattle.semantics.specs.declared.ongoing.Certainty.the-variants.{Impossible, Open, Sure, NotYet}
 use Rattle.semantics.specs.Operations.{caseOf, solveAnswer, solveValues}
-use Rattle.semantics.specs.Solving.{rounds, solvedT, solvedP, valuesOf, solvedValues}
+use Rattle.semantics.specs.Solving.{roundT, rounds, solvedT, solvedP, valuesOf, solvedValues}
 use Rattle.semantics.specs.Stability.{nextSet}
 use Rattle.semantics.specs.Unfinished.{firstStateWith, firstState, heldInput, begun, heldCase, workedP, nextT, afterRound, advanced, advanceAnswer}
 use Rattle.semantics.specs.Unfinished.{certainty, certainOf, replied, asked}
@@ -34,7 +34,7 @@ use Rattle.semantics.proofs.Held.{copied-take, pairs-fit, empty-input-reads, re
 use Rattle.semantics.proofs.States.{before-end, after-end, asked-within}
 use Rattle.semantics.proofs.Rounds.{value-sure, settled-T, worked-P, next-T, last-round}
 use Rattle.semantics.proofs.Solved.{value-of, values-length, solved-length}
-use Rattle.theorems.specs.Demands.{Reads, SolvedCase, roundT}
+use Rattle.theorems.specs.Demands.{Reads, SolvedCase}
 use Rattle.theorems.specs.Unfinished.{after, solving, heldBy, lastP, certainAfter}
 use Rattle.theorems.proofs.Demands.{solved-reads, rounds-answered, solve-writes-leading}
 

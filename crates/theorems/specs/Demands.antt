@@ -1,19 +1,17 @@
 -- What the demands say of bytes in and bytes out. The theorems are proved in proofs/. Assumes nothing.
-use Prim.Native.Nat.{ℕ, _+_, _*_, _<_}
+use Prim.Native.Nat.{ℕ, _*_, _<_}
 use mathlib.Core.Path.{_≡_}
-use mathlib.Core.Bool.{Bool, true}
+use mathlib.Core.Bool.{true}
 use mathlib.Core.List.{List, _++_, map}
 use lib.ListN.{length, getD, drop}
 use lib.Dec.{ltb}
 use Rattle.fixpoint.specs.Lists.{all}
-use Rattle.fixpoint.specs.Stages.{lower}
 use Rattle.cases.specs.Case.{Case}
 use Rattle.cases.specs.Reading.{outcome}
 use Rattle.semantics.specs.Denial.{OwnDenial, strata}
 use Rattle.semantics.specs.Operations.{caseOf, levelBytes, solveAnswer, solveValues, solveLevels, solveVerdicts, checkAnswer, rankStrata}
 use Rattle.semantics.specs.Solving.{solvedValues, solvedLevels}
 use Rattle.semantics.specs.Solving.{verdicts as verdictsOf}
-use Rattle.semantics.specs.Stability.{nextSet}
 use Rattle.semantics.specs.Values.{pairCount, pairOf}
 
 -- ---- Demand 1
@@ -55,17 +53,6 @@ pub record AcceptedLevels (s valueTable : List ℕ) : Type 0 where
 -- the pair of target i
 abbrev pub pairOfTarget : Case → ℕ → ℕ
 pairOfTarget c i = getD (map (λ t. pairOf c (t .shape .0) (t .node .0)) (c .targets)) i 0
-
--- Ti of solving
-abbrev pub roundT : Case → ℕ → List Bool
-roundT c i = lower (pairCount c) (nextSet c) i
-
--- n is i + 1 for the first i where the next T equals Ti
-pub record RoundsCounted (c : Case) (n : ℕ) : Type 0 where
-  pub i : ℕ
-  pub rounds-are : n ≡ i + 1
-  pub next-equal : roundT c (i + 1) ≡ roundT c i
-  pub first : (j : ℕ) → j < i → roundT c (j + 1) ≡ roundT c j → ⊥
 
 -- ---- Ranking
 

@@ -11,11 +11,10 @@ use Rattle.semantics.specs.declared.ongoing.Unfinished.{Unfinished}
 use Rattle.semantics.specs.declared.ongoing.Certainty.{Certainty}
 use Rattle.semantics.specs.declared.ongoing.Certainty.the-variants.{Impossible, Open, Sure, NotYet}
 use Rattle.semantics.specs.Operations.{caseOf}
-use Rattle.semantics.specs.Solving.{rounds}
+use Rattle.semantics.specs.Solving.{roundT, rounds}
 use Rattle.semantics.specs.Stability.{nextSet}
 use Rattle.semantics.specs.Unfinished.{heldInput, begun, advanced}
 use Rattle.semantics.specs.Values.{pairCount}
-use Rattle.theorems.specs.Demands.{roundT}
 
 -- so many advances
 unfoldable pub after : ℕ → Unfinished → Unfinished
