@@ -1,6 +1,3 @@
--- The laws of finding a command: refusals 1 to 7, 20 and 22 by their tests, the shapes that a command names, noted, and what is found.
-pub mod Judging
-pub mod Laid
-pub mod Headings
+-- The laws of finding a command: the shapes that it names, noted, and what is found.
 pub mod Notes
 pub mod Findings

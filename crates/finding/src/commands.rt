@@ -1,9 +1,6 @@
 // What is found where a command should start: a command as a step, and, in tables of their own, the fresh shapes that it makes and the shapes
 // that it names. A 28 has a form of its own; every other command is judged by `next`. 19 is the last check of every shape command, 20 that of a 03.
-use crate::faults::in_order;
-use crate::faults::next;
 use crate::noting::note;
-use crate::parking::edge_there;
 use cases::answers::Step;
 use cases::answers::Taken;
 use cases::answers::number_of;
@@ -13,6 +10,9 @@ use cases::command::shape_rule_of;
 use cases::counts::Counts;
 use cases::counts::no_counts;
 use cases::counts::shape_limit;
+use fitness::faults::in_order;
+use fitness::faults::next;
+use fitness::parking::edge_there;
 use parts::readers::Cursor;
 use parts::readers::Opened;
 use parts::readers::read_part;

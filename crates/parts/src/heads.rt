@@ -1,7 +1,4 @@
 // The head of a part: refusals 1, 3, 5, 6 and 7, in this order.
-use crate::faults::shape_least_positive;
-use crate::faults::shape_nodes_known;
-use crate::faults::shape_paths_earlier;
 use cases::command::Row;
 use cases::command::shape_rule_of;
 use cases::counts::Counts;
@@ -11,6 +8,9 @@ use cases::format::part_format_of;
 use cases::format::read_operands;
 use cases::format::taken_by;
 use cases::heads::Head;
+use fitness::shapes::shape_least_positive;
+use fitness::shapes::shape_nodes_known;
+use fitness::shapes::shape_paths_earlier;
 ghost use mathlib.Core.Path.{_≡_};
 ghost use Rattle.cases.specs.Parts.{opening, ruleHead, atMostHead, headAt};
 
