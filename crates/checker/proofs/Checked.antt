@@ -18,7 +18,7 @@ use Rattle.semantics.specs.Operations.{orElse, firstOf, levelsIn, pairFault}
 use Rattle.semantics.specs.Values.{pairCount, supportedAt}
 use Rattle.semantics.proofs.Refusing.{zero-cases, orElse-next, orElse-this, unless-none, unless-place, first-refuses, Well, well-first, well-all, well-of}
 use Rattle.support.specs.Proposals.{Proposed, unsupported}
-use Rattle.checker.specs.Justifying.{LevelsChecked}
+use Rattle.justifying.specs.Justifying.{LevelsChecked}
 use Rattle.semantics.specs.OldCode.{supportFault}
 
 -- ---- Two passes for one

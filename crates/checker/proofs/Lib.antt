@@ -1,6 +1,3 @@
--- The laws of levels below a bound, of levels by digits, of justified pairs, of two passes for one and of the answer.
-pub mod Lowered
-pub mod InDigits
-pub mod Justified
+-- The laws of two passes for one and of the answer.
 pub mod Checked
 pub mod Answered

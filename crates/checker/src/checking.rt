@@ -1,10 +1,10 @@
 // The first fault of a proposal, and the answer that goes with it. Every pair is looked at for 14 first: 15 can then only stand below the first
 // 14, and the pairs there are supported.
-use crate::justification::level_fault;
 use cases::answers::Refusal;
 use cases::counts::Counts;
 use fillers::table::is_small;
 use fillers::table::node_sets;
+use justifying::justification::level_fault;
 use pairs::tallies::tally_of;
 use pairs::tallies::tally_targets;
 use semantics::answers::Checked;
