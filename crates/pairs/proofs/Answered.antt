@@ -1,15 +1,16 @@
 -- What is answered off the sets of valid and of possible pairs. Assumes nothing.
 use Prim.Native.Nat.{ℕ, _*_}
 use native.Mathlib.Omega.{arith}
-use mathlib.Core.Path.{_≡_, refl, sym, ap, ap₂, _∙_}
-use mathlib.Core.Bool.{Bool, true, and-eq-true-iff}
-use mathlib.Core.List.{List, [], _∷_, _++_, map}
+use mathlib.Core.Path.{_≡_, sym, ap, ap₂, _∙_}
+use mathlib.Core.Bool.{Bool, _&&_, and-eq-true-iff}
+use mathlib.Core.List.{List, _++_}
 use lib.Dec.{ltb}
 use lib.ListN.{length, take, drop, length-map, List·getD-append}
 use lib.Seq.{take-at}
 use borrow.Author.Tests.{ltb-true}
 use Rattle.fixpoint.specs.Lists.{all}
-use Rattle.fixpoint.proofs.Lists.{length-made}
+use Rattle.fixpoint.proofs.Lists.{length-made, map-where, all-where}
+use Rattle.cases.specs.declared.command.Target.{Target}
 use Rattle.cases.specs.Case.{Case}
 use Rattle.cases.specs.Counts.{wordsOf}
 use Rattle.cases.specs.Reading.{noRefusal}
@@ -57,17 +58,13 @@ targets-long counts rows values = length-map (caseIn counts rows .targets) _ ∙
 pub targets-read : (c : Case) → Sound c → (values later : List ℕ) → length values ≡ pairCount c → targetValues c (values ++ later) ≡ targetValues c values
 unfolding targetValues all
 targets-read c sound values later e =
-    map-where (c .targets) (λ t. ltb (t .shape .0) (length (c .shapes))) (λ t. ltb (t .node .0) (c .nodes)) _ _
-    (λ t a b. List·getD-append values later 0 (pairOf c (t .shape .0) (t .node .0))
-    (omega (arith, pair-below c (t .shape .0) (t .node .0) (ltb-true _ _ a) (ltb-true _ _ b))))
-    (sound .targets-named) (sound .targets-known)
-  where
-    map-where : {A B : Type 0} (l : List A) (s t : A → Bool) (f h : A → B) → ((x : A) → s x ≡ true → t x ≡ true → f x ≡ h x) → all l s ≡ true → all l t ≡ true → map f l ≡ map h l
-    map-where [] s t f h e a b = refl
-    map-where (x ∷ l) s t f h e a b =
-        let p = and-eq-true-iff (s x) (all l s) .0 a in
-        let q = and-eq-true-iff (t x) (all l t) .0 b in
-        rw (e x (p .0) (q .0), map-where l s t f h e (p .1) (q .1))
+    let shape : Target → Bool = λ t. ltb (t .shape .0) (length (c .shapes)) in
+    let node : Target → Bool = λ t. ltb (t .node .0) (c .nodes) in
+    map-where _ _ (λ t. shape t && node t) (c .targets) (sym (all-where (c .targets) shape node (sound .targets-named)) ∙ sound .targets-known)
+    (λ t h.
+    let both = and-eq-true-iff (shape t) (node t) .0 h in
+    List·getD-append values later 0 (pairOf c (t .shape .0) (t .node .0))
+    (omega (arith, pair-below c (t .shape .0) (t .node .0) (ltb-true _ _ (both .0)) (ltb-true _ _ (both .1)))))
 
 -- the leading entries of a table that was written
 leading : (n : ℕ) (table entries : List ℕ) {t′ : List ℕ} → length entries ≡ n → t′ ≡ written noRefusal entries table → take n t′ ≡ entries

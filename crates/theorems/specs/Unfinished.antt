@@ -5,14 +5,12 @@ use mathlib.Core.Bool.{Bool, true, cond}
 use mathlib.Core.List.{List}
 use lib.Dec.{leb}
 use Rattle.fixpoint.specs.Sets.{has, collect}
-use Rattle.fixpoint.specs.Stages.{upper}
 use Rattle.cases.specs.Case.{Case}
 use Rattle.semantics.specs.declared.ongoing.Unfinished.{Unfinished}
 use Rattle.semantics.specs.declared.ongoing.Certainty.{Certainty}
 use Rattle.semantics.specs.declared.ongoing.Certainty.the-variants.{Impossible, Open, Sure, NotYet}
 use Rattle.semantics.specs.Operations.{caseOf}
-use Rattle.semantics.specs.Solving.{roundT, rounds}
-use Rattle.semantics.specs.Stability.{nextSet}
+use Rattle.semantics.specs.Solving.{roundT, roundP, rounds}
 use Rattle.semantics.specs.Unfinished.{heldInput, begun, advanced}
 use Rattle.semantics.specs.Values.{pairCount}
 
@@ -32,7 +30,7 @@ heldBy s = caseOf (heldInput s)
 -- "the last P worked out" after i advances: before the first round no pair is outside it, and past the end it is the solved one
 unfoldable pub lastP : Case → ℕ → List Bool
 lastP c zero = collect (pairCount c) (λ k. true)
-lastP c (suc i) = upper (pairCount c) (nextSet c) i
+lastP c (suc i) = roundP c i
 
 -- "After i rounds a pair in Ti is sure, a pair outside the last P worked out is impossible, and each other is "not yet" until the end, then
 -- open.": of pair k after i advances, which may be more than there are rounds

@@ -1,5 +1,6 @@
 -- `fitness::faults::within_limit` meets its contract: each arm answers as the definition does for that variant. Assumes nothing.
 use borrow.Author.Needs.{needs}
+use Rattle.fitness.proofs.Arms.{edges-below}
 use Rattle.fitness.proofs.faults.within_limit.Statement.{statement}
 use Rattle.fitness.proofs.faults.within_limit.Tie as tie
 
@@ -16,7 +17,7 @@ within-limit-spec =
     (λ c. search needs)
     (λ c. search needs)
     (λ c. cc)
-    (λ c. rw (c .before .enum-told .given .1))
+    (λ c. search edges-below)
     (λ c. cc)
     (λ c. cc)
     (λ c. cc)

@@ -1,5 +1,6 @@
 -- `fitness::shapes::shape_least_positive` meets its contract: each arm answers as the definition does for that variant. Assumes nothing.
 use borrow.Author.Needs.{needs}
+use Rattle.fitness.proofs.Arms.{least-number}
 use Rattle.fitness.proofs.shapes.shape_least_positive.Statement.{statement}
 use Rattle.fitness.proofs.shapes.shape_least_positive.Tie as tie
 
@@ -22,4 +23,4 @@ shape-least-positive-spec =
     (λ c. cc)
     (λ c. cc)
     (λ c. cc)
-    (λ c. rw (c .before .rule .given .1)))
+    (λ c. search least-number))
