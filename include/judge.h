@@ -24,9 +24,9 @@
  * An input that begins with 00 00 and whose third byte is not 00 is answered as what stands behind these two bytes, but that places that are
  * offsets are two more, and that the copy in a judge_unfinished has them.
  *
- * Every answer but an advance's starts with a refusal number, 0 for none, and its place; solve and check answer the number alone. A refused call writes nothing, and every count of
- * its answer, and a reply, is 0 (the code of the old check is no count: it is always 1). Otherwise the leading entries of the tables are
- * written and all later bytes keep their contents.
+ * Every answer but an advance's starts with a refusal number, 0 for none, and its place; solve and check answer the number alone. A refused
+ * call writes nothing, and every count of its answer, and a reply, is 0 (the code of the old check is no count: it is always 1). Otherwise
+ * the leading entries of the tables are written and all later bytes keep their contents.
  *
  *   number  refused because                                              place
  *   1       unknown command byte, or part byte in a command 28           the command's offset
@@ -55,8 +55,11 @@
  *
  * Reading's refusals are 1 to 9, 18 to 20 and 22. Command 03 parks an edge for good: it gives no fillers, and a later 02 does not bring it
  * back. Both commands stay on record, and each counts as an edge, in the limit too. Command 28 holds a whole rule; the parts
- * inside it, but for a named shape (29), become fresh shapes, two for an at most (2A), numbered after all written ones. Pairs, tables and the count of shapes are those of all shapes, fresh ones
- * too.
+ * inside it, but for a named shape (29), become fresh shapes, two for an at most (2A), numbered after all written ones. Pairs, tables and
+ * the count of shapes are those of all shapes, fresh ones too.
+ *
+ * A sheet may be split by road. Where the nodes fall into two groups that no command 02 or 03 joins, the values and verdicts that judge_solve
+ * gives a group's pairs and targets are those of the case with only that group's edges. Its levels and its rounds may be others.
  */
 #ifndef JUDGE_H
 #define JUDGE_H

@@ -1,4 +1,4 @@
-//! Random and built cases, whole and damaged. A case is kept as a list of commands until its bytes are wanted, so that damage can be done to commands as well as to bytes. Those with parts, with parked edges and with a profile have files of their own.
+//! Random and built cases, whole and damaged. A case is kept as a list of commands until its bytes are wanted, so that damage can be done to commands as well as to bytes. Those with parts, with parked edges, with a profile and in two groups have files of their own.
 
 #[path = "nested.rs"]
 mod nested;
@@ -6,6 +6,8 @@ mod nested;
 mod parked;
 #[path = "profiled.rs"]
 mod profiled;
+#[path = "split.rs"]
+pub mod split;
 pub use nested::*;
 pub use parked::*;
 pub use profiled::*;

@@ -16,6 +16,7 @@ mod proposals;
 #[allow(dead_code)]
 mod reference;
 mod samples;
+mod split_kinds;
 mod tally;
 mod totals;
 mod unfinished_kinds;
@@ -56,6 +57,9 @@ fn replay(file: &str) -> Result<String, String> {
     if let Some(state) = part("state") {
         unfinished_kinds::replay(&mut tally, &state, part("pair").map(|bytes| number(&bytes)));
         return Ok(format!("differential: {file}: all {} calls agree", tally.calls));
+    }
+    if let Some(group) = part("group") {
+        split_kinds::replay(&mut tally, &case, &group);
     }
     compare_read(&mut tally, &judge, &case);
     compare_solve(&mut tally, &mut judge, &case, &values, &levels, &table("verdicts", targets));

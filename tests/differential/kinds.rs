@@ -6,7 +6,7 @@ use crate::generator::*;
 use crate::plan::{Kind, Plan};
 use crate::reference::Judge;
 use crate::tally::Tally;
-use crate::{old_code, park_kinds, part_kinds, profile_kinds, samples, totals, unfinished_kinds};
+use crate::{old_code, park_kinds, part_kinds, profile_kinds, samples, split_kinds, totals, unfinished_kinds};
 
 pub type Cases = Vec<Vec<u8>>;
 
@@ -81,6 +81,7 @@ pub fn kinds(plan: &Plan) -> Vec<Kind<Tally>> {
     kinds.extend(old_code::kinds());
     kinds.extend(unfinished_kinds::kinds(plan));
     kinds.extend(profile_kinds::kinds(plan));
+    kinds.extend(split_kinds::kinds());
     kinds
 }
 
@@ -275,7 +276,7 @@ fn feeders() -> Cases {
     cases
 }
 
-fn built(r: &mut Random) -> Vec<u8> {
+pub fn built(r: &mut Random) -> Vec<u8> {
     bytes(&match r.below(8) {
         0 => { let n = r.range(2, 128); dense_star(r, n) }
         1 => { let n = r.range(2, 128); deep_paths(r, n, &[0x12, 0x13, 0x13, 0x14]) }

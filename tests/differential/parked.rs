@@ -45,18 +45,22 @@ pub(super) fn random_park(r: &mut Random, edges: &[Vec<u8>]) -> Vec<u8> {
 // ---- Cases with less of their edges
 
 /// The commands among the edges of a case that reads, and where they begin and end.
-fn edges_of(case: &[u8]) -> (Vec<&[u8]>, usize, usize) {
+pub(super) fn edges_of(case: &[u8]) -> (Vec<&[u8]>, usize, usize) {
     let start = if case[0] == 0x00 { 5 } else { 3 };
     let edges: Vec<&[u8]> = case[start..].chunks(6).take_while(|command| matches!(command[0], 0x02 | 0x03)).collect();
     let end = start + 6 * edges.len();
     (edges, start, end)
 }
 
+/// A case that reads, with these commands in the place of its edges.
+pub(super) fn with_edges(case: &[u8], edges: Commands) -> Vec<u8> {
+    let (_, start, end) = edges_of(case);
+    [&case[..start], &bytes(&edges), &case[end..]].concat()
+}
+
 /// A case that reads, with those of its edges' commands that are kept.
-fn keeping(case: &[u8], kept: impl Fn(&[u8]) -> bool) -> Vec<u8> {
-    let (edges, start, end) = edges_of(case);
-    let edges: Vec<&[u8]> = edges.into_iter().filter(|edge| kept(edge)).collect();
-    [&case[..start], &edges.concat(), &case[end..]].concat()
+pub(super) fn keeping(case: &[u8], kept: impl Fn(&[u8]) -> bool) -> Vec<u8> {
+    with_edges(case, edges_of(case).0.into_iter().filter(|edge| kept(edge)).map(<[u8]>::to_vec).collect())
 }
 
 /// Without its parked edges and all that names them.

@@ -69,13 +69,13 @@ fn under(number: usize, case: &[u8]) -> Vec<u8> {
 }
 
 /// No 00 and that of each profile.
-fn openings() -> Vec<Vec<u8>> {
+pub fn openings() -> Vec<Vec<u8>> {
     let mut openings = vec![vec![]];
     openings.extend((0..PROFILES.len()).map(profile));
     openings
 }
 
-fn sample_cases() -> Cases {
+pub fn sample_cases() -> Cases {
     [samples::RING, samples::NESTED_RING, samples::FRESH, samples::AT_MOST, samples::PARKED_RING, samples::PARKED].map(samples::hex).to_vec()
 }
 

@@ -3,7 +3,7 @@
 use crate::plan::{Group, Work};
 use crate::reference::parts::Part;
 use crate::reference::{Case, Edge};
-use crate::{old_code, proposals, totals, unfinished_kinds};
+use crate::{old_code, proposals, split_kinds, totals, unfinished_kinds};
 use std::collections::BTreeMap;
 
 /// The numbers that reading can answer, and every other operation too.
@@ -37,18 +37,17 @@ fn fresh_kind(part: &Part) -> &'static str {
 /// What a park can be.
 const PARKS: [&str; 5] = ["of an edge", "of the last edge", "of an edge laid twice", "of an edge parked already", "of an edge laid again later"];
 
-/// What the park at a place among the edges is.
-fn park_kinds(edges: &[Edge], at: usize) -> Vec<&'static str> {
+/// Which of them the park at a place among the edges is.
+fn park_kinds(edges: &[Edge], at: usize) -> [bool; 5] {
     let link = edges[at].link;
     let laid = |edges: &[Edge]| edges.iter().filter(|edge| !edge.parks && edge.link == link).count();
-    let is = [
+    [
         true,
         edges[..at].iter().rfind(|edge| !edge.parks).map(|edge| edge.link) == Some(link),
         laid(&edges[..at]) > 1,
         edges[..at].contains(&edges[at]),
         laid(&edges[at..]) > 0,
-    ];
-    PARKS.into_iter().zip(is).filter(|(_, is)| *is).map(|(kind, _)| kind).collect()
+    ]
 }
 
 /// What a case's profile can be.
@@ -62,7 +61,7 @@ fn profile_kinds(case: &Case) -> Vec<&'static str> {
 
 /// What is counted by kind and not by number.
 fn kinds() -> Vec<(&'static str, Vec<&'static str>)> {
-    vec![("proposals", proposals::names()), ("profiles", PROFILES.to_vec()), ("fresh shapes", FRESH.to_vec()), ("parks", PARKS.to_vec()), ("parked edges", vec!["that change values", "that change none"]), ("nodes asked", totals::ASKED.to_vec()), ("old code", old_code::KINDS.to_vec()), ("courses", unfinished_kinds::COURSES.to_vec()), ("states", unfinished_kinds::STATES.to_vec()), ("questions", unfinished_kinds::QUESTIONS.to_vec())]
+    vec![("proposals", proposals::names()), ("profiles", PROFILES.to_vec()), ("fresh shapes", FRESH.to_vec()), ("parks", PARKS.to_vec()), ("parked edges", vec!["that change values", "that change none"]), ("nodes asked", totals::ASKED.to_vec()), ("old code", old_code::KINDS.to_vec()), ("courses", unfinished_kinds::COURSES.to_vec()), ("states", unfinished_kinds::STATES.to_vec()), ("questions", unfinished_kinds::QUESTIONS.to_vec()), ("splits", split_kinds::SPLITS.to_vec()), ("groups", split_kinds::GROUPS.to_vec()), ("edges across", split_kinds::ACROSS.to_vec())]
 }
 
 #[derive(Default)]
@@ -94,6 +93,11 @@ impl Tally {
         *self.kinds.entry((group, kind)).or_insert(0) += 1;
     }
 
+    /// Each of these kinds that it is.
+    pub fn note_kinds<const N: usize>(&mut self, group: &'static str, kinds: [&'static str; N], is: [bool; N]) {
+        kinds.into_iter().zip(is).filter(|(_, is)| *is).for_each(|(kind, _)| self.note_kind(group, kind));
+    }
+
     /// What a case that reads is made of: its profile, written shapes by the depth of their part, fresh ones by the kind of theirs, parks.
     pub fn note_case(&mut self, case: &Case) {
         profile_kinds(case).into_iter().for_each(|kind| self.note_kind("profiles", kind));
@@ -104,7 +108,7 @@ impl Tally {
             self.note_kind("fresh shapes", fresh_kind(part));
         }
         for at in (0..case.edges.len()).filter(|at| case.edges[*at].parks) {
-            park_kinds(&case.edges, at).into_iter().for_each(|kind| self.note_kind("parks", kind));
+            self.note_kinds("parks", PARKS, park_kinds(&case.edges, at));
         }
     }
 

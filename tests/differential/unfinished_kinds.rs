@@ -164,10 +164,10 @@ pub const STATES: [&str; 9] = [
     "with other pairs than its case's", "with more pairs than values",
 ];
 
-fn state_kinds(state: &Unfinished) -> Vec<&'static str> {
+fn state_kinds(state: &Unfinished) -> [bool; 9] {
     let read = Judge::new(state.copy()).read;
     let pairs = read.as_ref().map_or(0, Case::pairs);
-    let is = [
+    [
         read.is_ok(),
         read.is_err(),
         read.map_or_else(|refusal| refusal.number == 3, |_| false),
@@ -177,8 +177,7 @@ fn state_kinds(state: &Unfinished) -> Vec<&'static str> {
         state.over > 1,
         state.pairs != pairs,
         state.pairs > state.values.len(),
-    ];
-    STATES.into_iter().zip(is).filter(|(_, is)| *is).map(|(kind, _)| kind).collect()
+    ]
 }
 
 /// A state with the case in it or with noise, and any numbers beside it, mostly near those that a beginning would give.
@@ -210,7 +209,7 @@ pub fn examine_state(tally: &mut Tally, r: &mut Random, case: &[u8]) {
     tally.cases += 1;
     let mut state = any_state(r, case);
     for _ in 0..3 {
-        state_kinds(&state).into_iter().for_each(|kind| tally.note_kind("states", kind));
+        tally.note_kinds("states", STATES, state_kinds(&state));
         ask_about(tally, r, &state);
         state = compare_advance(tally, &state, &state.advancing());
     }

@@ -62,6 +62,7 @@ pub fn solve(case: &[u8], v: &mut [u8], l: &mut [u8], d: &mut [u8]) -> [usize; 8
         "later" if solved && v.len() > pairs => v[pairs] ^= 1,
         "levels-untouched" if solved => l.copy_from_slice(&before.1),
         "verdicts-untouched" if solved => d.copy_from_slice(&before.2),
+        "smaller-rounds" | "rounds-by-turns" | "leaks" | "verdict-across" if solved => mix_roads(&fault, judge.read.as_ref().unwrap(), &mut answer, v, d),
         // the answer goes by a byte that nobody has set
         "unset" if solved && before.0.get(0) == Some(&0x5E) => answer[2] += 1,
         "shared" if solved => pass_through_shared(v),
@@ -92,6 +93,42 @@ fn cancel_double_nots(judge: &mut Judge) {
             }
         }
     }
+}
+
+/// What is wrong where two roads have edges, and right of each alone.
+fn mix_roads(fault: &str, case: &Case, answer: &mut [usize; 8], v: &mut [u8], d: &mut [u8]) {
+    let roads = roads(case);
+    if roads.len() < 2 {
+        return;
+    }
+    let rounds = roads.iter().map(|road| case.rounds_of_group(road));
+    // the pair of the same shape at the first node of another road
+    let across = |shape: usize, node: usize| roads.iter().find(|road| !road[node]).map(|road| case.pair(shape, road.iter().position(|is| *is).unwrap()));
+    match fault {
+        "smaller-rounds" => answer[2] = rounds.min().unwrap(),
+        "rounds-by-turns" => answer[2] = rounds.sum(),
+        "leaks" => {
+            let solved = v.to_vec();
+            (0..case.pairs()).for_each(|pair| v[pair] = solved[across(pair / case.nodes, pair % case.nodes).unwrap()].max(v[pair]));
+        }
+        _ => d.iter_mut().zip(&case.targets).for_each(|(verdict, (shape, node))| *verdict = v[across(*shape, *node).unwrap()]),
+    }
+}
+
+/// The nodes that edges join, road by road; a node without an edge is on none.
+fn roads(case: &Case) -> Vec<Vec<bool>> {
+    let mut roads: Vec<Vec<bool>> = Vec::new();
+    for first in &case.edges {
+        if !roads.iter().any(|road| road[first.link.1]) {
+            let mut road = vec![false; case.nodes];
+            road[first.link.1] = true;
+            while let Some(edge) = case.edges.iter().find(|edge| road[edge.link.1] != road[edge.link.2]) {
+                (road[edge.link.1], road[edge.link.2]) = (true, true);
+            }
+            roads.push(road);
+        }
+    }
+    roads
 }
 
 /// A buffer that all threads share; the pause lets another one in.

@@ -12,6 +12,7 @@ pub mod Held
 pub mod Certain
 pub mod States
 pub mod Rounds
+pub mod Groups
 pub mod Paths
 pub mod Denial
 pub mod Undenied

@@ -1,5 +1,6 @@
 -- What a case means, in the order of document 01: paths, values, levels and stability, solving, denial, the four operations; then
--- document 02's points: rules inside rules, parked edges, totals by fitting, the old code, unfinished solves. And what inner functions answer.
+-- document 02's points: rules inside rules, parked edges, totals by fitting, the old code, unfinished solves, groups that no edge joins. And what
+-- inner functions answer.
 pub mod Paths
 pub mod Values
 pub mod Nested
@@ -7,6 +8,7 @@ pub mod Parking
 pub mod Levels
 pub mod Stability
 pub mod Solving
+pub mod Groups
 pub mod Denial
 pub mod Operations
 pub mod Answered

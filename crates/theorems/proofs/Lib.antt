@@ -8,3 +8,4 @@ pub mod OldCode
 pub mod Unfinished
 pub mod Profiles
 pub mod Parking
+pub mod Groups

@@ -4,3 +4,4 @@ pub mod Samples
 pub mod Unfinished
 pub mod Profiles
 pub mod Parking
+pub mod Groups

@@ -1,8 +1,12 @@
--- The starred samples of document 01, "Samples", and some of document 02, points 2, 4 and 6: what each says, and a table of each. Assumes nothing.
+-- The starred samples of document 01, "Samples", and some of document 02, points 2, 4, 6 and 9: what each says, and a table of each. Assumes nothing.
 use Prim.Native.Nat.{ℕ, zero, suc, _<_}
 use mathlib.Core.Path.{_≡_}
-use mathlib.Core.List.{List, [], _∷_}
+use mathlib.Core.Bool.{Bool}
+use mathlib.Core.List.{List, [], _∷_, _++_}
 use lib.ListN.{length, getD}
+use lib.Dec.{ltb}
+use Rattle.fixpoint.specs.Sets.{others}
+use Rattle.fixpoint.specs.Stages.{RoundsCounted}
 use Rattle.cases.specs.declared.command.ShapeRule.{ShapeRule}
 use Rattle.cases.specs.declared.command.ShapeRule.the-variants.{Top, Node, And, Not, AtLeast}
 use Rattle.cases.specs.declared.numbers.Shape.{Shape}
@@ -14,6 +18,8 @@ use Rattle.semantics.specs.Values
 use Rattle.semantics.specs.Stability
 use Rattle.semantics.specs.Operations
 use Rattle.semantics.specs.OldCode
+use Rattle.semantics.specs.Groups
+use Rattle.theorems.specs.Groups.{ReadsGroup}
 
 -- ---- What a sample says; the first argument is the case in bytes
 
@@ -32,6 +38,8 @@ pub data Sample : Type 0 where
   onlyStable : List ℕ → (values : List ℕ) → Sample
   -- the values of an assignment that is not stable
   unstable : List ℕ → (values : List ℕ) → Sample
+  -- a group that no edge joins to the other, the cases with only its edges and with only the other's, and the rounds of both groups
+  splits : List ℕ → (group : ℕ → Bool) → (ours theirs : List ℕ) → (rounds otherRounds : ℕ) → Sample
 
 -- a table as it is lent: n bytes of EE, which nothing writes
 unfoldable pub lent : ℕ → List ℕ
@@ -58,6 +66,13 @@ pub record OnlyStable (s values : List ℕ) : Type 0 where
   pub is-stable : Stability.StableAssignment (Operations.caseOf s) values
   pub no-other : (v : List ℕ) → Stability.StableAssignment (Operations.caseOf s) v → (k : ℕ) → k < Values.pairCount (Operations.caseOf s) → getD v k 0 ≡ getD values k 0
 
+pub record SplitsInto (s : List ℕ) (group : ℕ → Bool) (ours theirs : List ℕ) (rounds otherRounds : ℕ) : Type 0 where
+  pub apart : Groups.Apart (Operations.caseOf s) group
+  pub reads-ours : ReadsGroup s group ours
+  pub reads-theirs : ReadsGroup s (others group) theirs
+  pub ours-counted : RoundsCounted (Groups.groupT (Operations.caseOf s) group) rounds
+  pub theirs-counted : RoundsCounted (Groups.groupT (Operations.caseOf s) (others group)) otherRounds
+
 -- the tables to be written are lent as long as they have to be
 abbrev pub Passes : Sample → Type 0
 Passes (solves s answer values levels verdicts) =
@@ -69,6 +84,7 @@ Passes (ranks s answer strata) = afterRanking s (lent (length strata)) ≡ (answ
 Passes (expands s shapes) = Operations.caseOf s .shapes ≡ shapes
 Passes (onlyStable s values) = OnlyStable s values
 Passes (unstable s values) = Stability.StableAssignment (Operations.caseOf s) values → ⊥
+Passes (splits s group ours theirs m n) = SplitsInto s group ours theirs m n
 
 abbrev pub AllPass : List Sample → Type 0
 AllPass [] = Unit {0}
@@ -149,6 +165,25 @@ nested =
     ∷ 0x30 ∷ 0x01 ∷ 0x00 ∷ 0x00 ∷ 0x30 ∷ 0x01 ∷ 0x01 ∷ 0x00
     ∷ 0xff ∷ []
 
+-- two roads, nodes 0 and 1 and nodes 2 and 3, with these edges: shape 0 says of every neighbour that it does not have shape 0, and shape 2
+-- is a double not of it; shape 3 is node 0
+unfoldable pub roads : List ℕ → List ℕ
+roads edges =
+    0x01 ∷ 0x04 ∷ 0x00 ∷ edges
+    ++ (0x10 ∷ 0x00
+    ∷ 0x26 ∷ 0x00 ∷ 0x01 ∷ 0x24 ∷ 0x00 ∷ 0x24 ∷ 0x01 ∷ 0x21 ∷ 0x00 ∷ 0x00
+    ∷ 0x30 ∷ 0x00 ∷ 0x00 ∷ 0x00 ∷ 0x30 ∷ 0x03 ∷ 0x00 ∷ 0x00 ∷ 0x30 ∷ 0x02 ∷ 0x02 ∷ 0x00
+    ∷ 0xff ∷ [])
+
+-- nodes a and a + 1 are each other's neighbour, and an edge from a to itself is parked
+unfoldable pub road : ℕ → List ℕ
+road a =
+    0x02 ∷ 0x00 ∷ a ∷ 0x00 ∷ suc a ∷ 0x00
+    ∷ 0x02 ∷ 0x00 ∷ suc a ∷ 0x00 ∷ a ∷ 0x00
+    ∷ 0x02 ∷ 0x00 ∷ a ∷ 0x00 ∷ a ∷ 0x00
+    ∷ 0x03 ∷ 0x00 ∷ a ∷ 0x00 ∷ a ∷ 0x00
+    ∷ []
+
 -- ---- The table
 
 abbrev shape : ℕ → Shape
@@ -185,7 +220,7 @@ starredSamples =
     ∷ []
 
 -- the old code takes the ring's proposal, which is not stable; the rule inside rules: both nots stay, and the at most makes a not and an at
--- least; the parked edge
+-- least; the parked edge; the two roads, together and each by itself, where the other's nodes have no edge and rest later
 unfoldable pub requestedSamples : List Sample
 requestedSamples =
     checksOld ring vouched (record { number = 0; place = 0; undetermined = 0; valid = 2; code = 1 })
@@ -197,4 +232,17 @@ requestedSamples =
     (1 ∷ 1 ∷ 0 ∷ 2 ∷ 1 ∷ 1 ∷ 0 ∷ 0 ∷ 0 ∷ 1 ∷ 2 ∷ 0 ∷ 0 ∷ 1 ∷ [])
     (0 ∷ 2 ∷ [])
     ∷ solves parked (solution 2 2 0 0 0 0) (2 ∷ 2 ∷ 0 ∷ 0 ∷ 0 ∷ 0 ∷ []) (1 ∷ 1 ∷ 0 ∷ 0 ∷ 0 ∷ 0 ∷ []) []
+    ∷ solves (roads (road 0 ++ road 2)) (solution 2 1 12 1 2 0)
+    (1 ∷ 1 ∷ 1 ∷ 1 ∷ 1 ∷ 1 ∷ 1 ∷ 1 ∷ 1 ∷ 1 ∷ 1 ∷ 1 ∷ 2 ∷ 0 ∷ 0 ∷ 0 ∷ [])
+    (3 ∷ 3 ∷ 3 ∷ 3 ∷ 2 ∷ 2 ∷ 2 ∷ 2 ∷ 2 ∷ 2 ∷ 2 ∷ 2 ∷ 1 ∷ 0 ∷ 0 ∷ 0 ∷ [])
+    (1 ∷ 2 ∷ 1 ∷ [])
+    ∷ solves (roads (road 0)) (solution 3 5 6 2 1 0)
+    (1 ∷ 1 ∷ 2 ∷ 2 ∷ 1 ∷ 1 ∷ 0 ∷ 0 ∷ 1 ∷ 1 ∷ 2 ∷ 2 ∷ 2 ∷ 0 ∷ 0 ∷ 0 ∷ [])
+    (3 ∷ 3 ∷ 1 ∷ 1 ∷ 2 ∷ 2 ∷ 0 ∷ 0 ∷ 2 ∷ 2 ∷ 1 ∷ 1 ∷ 1 ∷ 0 ∷ 0 ∷ 0 ∷ [])
+    (1 ∷ 2 ∷ 2 ∷ [])
+    ∷ solves (roads (road 2)) (solution 3 5 6 2 1 0)
+    (2 ∷ 2 ∷ 1 ∷ 1 ∷ 0 ∷ 0 ∷ 1 ∷ 1 ∷ 2 ∷ 2 ∷ 1 ∷ 1 ∷ 2 ∷ 0 ∷ 0 ∷ 0 ∷ [])
+    (1 ∷ 1 ∷ 3 ∷ 3 ∷ 0 ∷ 0 ∷ 2 ∷ 2 ∷ 1 ∷ 1 ∷ 2 ∷ 2 ∷ 1 ∷ 0 ∷ 0 ∷ 0 ∷ [])
+    (2 ∷ 2 ∷ 1 ∷ [])
+    ∷ splits (roads (road 0 ++ road 2)) (λ a. ltb a 2) (roads (road 0)) (roads (road 2)) 2 1
     ∷ []
