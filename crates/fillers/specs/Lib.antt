@@ -2,4 +2,5 @@
 pub mod NodeSets
 pub mod Converse
 pub mod CaseTables
+pub mod Clearing
 pub mod Filling
