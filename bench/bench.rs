@@ -14,14 +14,15 @@ mod reference;
 #[path = "../tests/solver/facts.rs"]
 mod facts;
 mod families;
+mod solvers;
 
 use facts::shape_facts;
 use families::*;
 use interface::*;
 use reference::{Case, Shape};
+use solvers::*;
 use std::collections::BTreeSet;
 use std::process::{Command, Stdio};
-use std::time::Duration;
 
 // ---- The judge
 
@@ -66,65 +67,12 @@ fn once(file: &str) {
     print!("{}", line.trim().trim_end_matches(" kB"));
 }
 
-/// This program once more.
-fn me() -> Command {
-    Command::new(std::env::current_exe().unwrap())
-}
-
 fn peak(file: &str) -> usize {
     let out = me().args(["--once", file]).output().unwrap().stdout;
     String::from_utf8(out).unwrap().parse().unwrap_or(0)
 }
 
 // ---- The solvers
-
-/// What a process has used: seconds and their millionths, the program's and the system's for it, and a peak of memory in kilobytes.
-#[repr(C)]
-struct Usage {
-    times: [i64; 4],
-    peak: i64,
-    rest: [i64; 13],
-}
-
-extern "C" {
-    fn wait4(id: i32, status: *mut i32, options: i32, usage: *mut Usage) -> i32;
-    fn clock_getcpuclockid(id: i32, clock: *mut i32) -> i32;
-}
-
-/// What the last solver wrote.
-const OUT: &str = "target/tests/bench/out";
-
-/// Seconds and peak of memory in kilobytes, or none where the time was over.
-type Run = Option<(f64, usize)>;
-
-/// Runs a solver from a process of its own: a peak counts from that of the process which starts it, and this one holds whole cases.
-fn run(limit: f64, command: &[&str]) -> Run {
-    let ended = me().args(["--run", &limit.to_string()]).args(command).output().unwrap();
-    assert!(ended.status.success(), "{command:?} could not be run");
-    let said = String::from_utf8(ended.stdout).unwrap();
-    let (seconds, peak) = said.split_once(' ')?;
-    Some((seconds.parse().unwrap(), peak.parse().unwrap()))
-}
-
-/// That process: says the seconds and the peak, or nothing.
-fn run_here(limit: f64, command: &[String]) {
-    let out = std::fs::File::create(OUT).unwrap();
-    let mut child = Command::new(&command[0]).args(&command[1..]).stdin(Stdio::null()).stdout(out).stderr(Stdio::null()).spawn().unwrap();
-    let mut usage = Usage { times: [0; 4], peak: 0, rest: [0; 13] };
-    let (mut status, mut used) = (0, 0);
-    let id = child.id() as i32;
-    assert_eq!(unsafe { clock_getcpuclockid(id, &mut used) }, 0);
-    while unsafe { wait4(id, &mut status, 1, &mut usage) } == 0 {
-        if clock(used) > limit {
-            child.kill().ok();
-            child.wait().ok();
-            return;
-        }
-        std::thread::sleep(Duration::from_millis(2));
-    }
-    let [own, own_millionths, system, system_millionths] = usage.times.map(|part| part as f64);
-    print!("{} {}", own + system + (own_millionths + system_millionths) / 1e6, usage.peak);
-}
 
 /// The pairs of an atom in the last answer that clingo or clasp wrote.
 fn last_answer(case: &Case, name: &str) -> Vec<bool> {
@@ -139,14 +87,6 @@ fn last_answer(case: &Case, name: &str) -> Vec<bool> {
         }
     }
     pairs
-}
-
-/// A comparison of times means nothing where the answers differ.
-fn agree(what: &str, same: bool) {
-    if !same {
-        println!("bench: {what} and the library disagree on target/tests/bench/case");
-        std::process::exit(1);
-    }
 }
 
 /// An atom of the doubled rules: v for valid, p for valid or undetermined, and the pair.
@@ -366,23 +306,8 @@ fn solver_cells(limit: f64, solve: f64, Beside { runs, as_written }: Beside) -> 
     [&times[..], &ratios, &memory].concat()
 }
 
-fn parts(ratio: f64) -> String {
-    match ratio {
-        r if r < 0.1 => format!("{r:.2}"),
-        r if r < 10.0 => format!("{r:.1}"),
-        r => format!("{r:.0}"),
-    }
-}
-
 fn megabytes(kilobytes: usize) -> String {
     format!("{:.1}", kilobytes as f64 / 1024.0)
-}
-
-/// Stores a file for the solvers and for a process of the judge's, and answers its path.
-fn file(name: &str, content: &[u8]) -> String {
-    let path = format!("target/tests/bench/{name}");
-    std::fs::write(&path, content).expect("target/tests/bench");
-    path
 }
 
 // ---- The tables
@@ -393,15 +318,6 @@ const SOLVERS: [&str; 13] = [
     "clingo, one / solve", "clingo, solved / solve", "clasp, one / solve", "clasp, solved / solve", "SWI-Prolog / solve",
     "clingo MB", "clasp MB", "SWI-Prolog MB",
 ];
-
-fn line(cells: &[String]) {
-    println!("| {} |", cells.join(" | "));
-}
-
-fn header(names: &[String]) {
-    line(names);
-    println!("|{}", "---|".repeat(names.len()));
-}
 
 /// What the start alone takes.
 fn starts(limit: f64) {
@@ -435,12 +351,12 @@ fn main() {
     let words: Vec<String> = std::env::args().skip(1).collect();
     match &words[..] {
         [word, file] if word == "--once" => return once(file),
-        [word, limit, command @ ..] if word == "--run" => return run_here(limit.parse().unwrap(), command),
+        [word, limit, command @ ..] if word == RUN => return run_here(limit.parse().unwrap(), command),
         _ => {}
     }
     let [alone, as_written] = ["--alone", "--as-written"].map(|name| words.contains(&name.to_string()));
     let limit: f64 = word(&words, "--limit").map_or(20.0, |w| w.parse().expect("--limit SECONDS"));
-    std::fs::create_dir_all("target/tests/bench").expect("target/tests/bench");
+    make_folder();
     if !alone {
         starts(limit);
     }

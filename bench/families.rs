@@ -24,7 +24,7 @@ fn seeds(name: &str) -> u64 {
 
 /// A case of a family. Up to 128 nodes it has no 00, so that a library which knows of none reads it too.
 /// What fills the shapes has as many as its profile lets in: 32 up to 128 nodes, 16 up to 256, 8 up to 512. So the positive chain has 31, 15 and 7, and two chains beside each other have 17 and 15, 9 and 7, 5 and 3: the pairs, and with them the longest walks, are about as many at 128, 256 and 512 nodes. A feeder has seven shapes at every size.
-fn family(name: &str, n: usize, seed: u64) -> Vec<u8> {
+pub fn family(name: &str, n: usize, seed: u64) -> Vec<u8> {
     let r = &mut Random(seed);
     let shapes = most_shapes(n);
     let (more, less) = (shapes / 2 + 1, shapes / 2 - 1);
@@ -61,7 +61,7 @@ fn family(name: &str, n: usize, seed: u64) -> Vec<u8> {
 }
 
 /// The plan of a family that is built from pieces. Forward, the chain walks along ascending nodes and is numbered before what reads it; reversed, it walks along descending nodes, and all shapes are numbered the other way round.
-fn plan(name: &str, n: usize) -> Option<Plan> {
+pub fn plan(name: &str, n: usize) -> Option<Plan> {
     Some(match name {
         "open from one, forward" => open_from_one(n, true),
         "open from one, reversed" => open_from_one(n, false).reversed(),
@@ -110,6 +110,12 @@ pub fn word<'a>(words: &'a [String], name: &str) -> Option<&'a str> {
 pub fn names(words: &[String]) -> Vec<&'static str> {
     let part = word(words, "--only").unwrap_or("");
     FAMILIES.into_iter().filter(|name| name.contains(part)).collect()
+}
+
+/// Those that were built against the solver, and the worst found.
+#[allow(dead_code)]
+pub fn slow() -> impl Iterator<Item = &'static str> {
+    FAMILIES.into_iter().filter(|name| *name == WORST || plan(name, 128).is_some())
 }
 
 /// The sizes, in nodes.

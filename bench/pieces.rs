@@ -98,6 +98,19 @@ impl Plan {
         most_shapes(self.nodes).saturating_sub(self.shapes())
     }
 
+    /// Takes away one of its pieces, or from one.
+    #[allow(dead_code)]
+    pub fn shrink(&mut self) {
+        match &mut self.open {
+            _ if self.readers.pop().is_some() => {}
+            _ if self.rungs > 0 => self.rungs -= 1,
+            Open::At { shapes, .. } if *shapes > 2 => *shapes -= 1,
+            _ if self.ties.pop().is_some() => {}
+            _ if self.denials > 2 => self.denials -= 1,
+            open => *open = Open::None,
+        }
+    }
+
     /// The same with the shapes numbered the other way round.
     pub fn reversed(self) -> Plan {
         Plan { keys: (0..most_shapes(self.nodes)).rev().collect(), ..self }
@@ -269,17 +282,21 @@ fn edges(n: usize, starts: usize, scattered: bool) -> Commands {
     edges
 }
 
-/// A shape's rule with its operands renamed.
-fn renamed(shape: &[u8], name: &[u8]) -> Vec<u8> {
-    let operands: &[usize] = match shape[0] {
+/// Where in a shape's command its shape operands stand.
+pub fn shape_operands(shape: &[u8]) -> &'static [usize] {
+    match shape[0] {
         0x22 | 0x23 => &[1, 2],
         0x24 => &[1],
         0x26 => &[2],
         0x27 => &[3],
         _ => &[],
-    };
+    }
+}
+
+/// A shape's rule with its operands renamed.
+fn renamed(shape: &[u8], name: &[u8]) -> Vec<u8> {
     let mut shape = shape.to_vec();
-    operands.iter().for_each(|at| shape[*at] = name[shape[*at] as usize]);
+    shape_operands(&shape).iter().for_each(|at| shape[*at] = name[shape[*at] as usize]);
     shape
 }
 

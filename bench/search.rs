@@ -92,22 +92,11 @@ fn some_plan(r: &mut Random, n: usize) -> Plan {
 /// Takes from what a plan has too much of, piece by piece, or fills it up with readers, most of them like one that is there.
 fn fit(r: &mut Random, plan: &mut Plan) {
     while plan.shapes() > most_shapes(plan.nodes) {
-        shrink(plan);
+        plan.shrink();
     }
     for _ in 0..plan.room() {
         let reader = if plan.readers.is_empty() || r.one_in(8) { some_reader(r, plan.nodes) } else { r.pick(&plan.readers) };
         plan.readers.push(reader);
-    }
-}
-
-fn shrink(plan: &mut Plan) {
-    match &mut plan.open {
-        _ if plan.readers.pop().is_some() => {}
-        _ if plan.rungs > 0 => plan.rungs -= 1,
-        Open::At { shapes, .. } if *shapes > 2 => *shapes -= 1,
-        _ if plan.ties.pop().is_some() => {}
-        _ if plan.denials > 2 => plan.denials -= 1,
-        open => *open = Open::None,
     }
 }
 

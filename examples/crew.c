@@ -1,4 +1,4 @@
-/* Solves the ring case, checks the solution, ranks the shapes, and prints the verdicts and the crew sheet; then it shows what the old code takes, and what is known before the end. Build it as tests/example/run does. */
+/* Solves the ring case, checks the solution, ranks the shapes, and prints the verdicts and the crew sheet; then it shows what the old code takes, what is known before the end, and which wires link a fitting. Build it as tests/example/run does. */
 #include <stdio.h>
 
 #include "judge.h"
@@ -68,6 +68,40 @@ static size_t print_rounds(void)
     return refused;
 }
 
+/* During works: the relay of fitting 1 to the gateway is parked, and fittings 2 and 3 have none. The target is "linked" at fitting 2. */
+static const uint8_t works[] = {
+    0x01, 0x04, 0x00,
+    0x02, 0x00, 0x01, 0x00, 0x00, 0x00,
+    0x02, 0x01, 0x00, 0x00, 0x00, 0x00,
+    0x03, 0x00, 0x01, 0x00, 0x00, 0x00,
+    0x10, 0x00, 0x10, 0x01,
+    0x20, 0x27, 0x01, 0x01, 0x00, 0x27, 0x01, 0x00, 0x03, 0x23, 0x01, 0x02,
+    0x30, 0x03, 0x02, 0x00,
+    0xff,
+};
+
+/* The wires that could be laid, each as an edge's operands; the third is the relay that is parked. */
+static const uint8_t wires[] = {
+    0x00, 0x02, 0x00, 0x03, 0x00,
+    0x00, 0x03, 0x00, 0x01, 0x00,
+    0x00, 0x01, 0x00, 0x00, 0x00,
+    0x00, 0x02, 0x00, 0x01, 0x00,
+};
+
+/* The fewest wires that make fitting 2 linked, and what the first two alone can do. Answers the number of a refusal, 0 for none. */
+static size_t print_wires(void)
+{
+    struct judge_fewest fewest = judge_fewest_edges(works, sizeof works, 0, wires, sizeof wires);
+    printf("wires that link fitting 2:");
+    for (size_t i = 0; i < sizeof wires / 5; i++)
+        if (fewest.selection >> i & 1)
+            printf(" %d to %d,", wires[5 * i + 1], wires[5 * i + 3]);
+    printf(" and no others\n");
+    struct judge_fewest fewer = judge_fewest_edges(works, sizeof works, 0, wires, 10);
+    printf("with the first two wires alone: %zu\n", fewer.number);
+    return fewest.number;
+}
+
 int main(void)
 {
     uint8_t values[JUDGE_MOST_PAIRS];
@@ -94,6 +128,7 @@ int main(void)
     printf("check: %zu, %zu valid targets\n", checked.number, checked.valid);
     size_t codes = print_codes();
     size_t rounds = print_rounds();
+    size_t links = print_wires();
     struct judge_ranked ranked = judge_rank(ring, sizeof ring, strata, sizeof strata);
     printf("rank: %zu, %zu strata\n", ranked.number, ranked.strata);
 
@@ -101,5 +136,5 @@ int main(void)
     size_t again = solve(ring, sizeof ring, values, sizeof values, levels, sizeof levels, verdicts, sizeof verdicts);
     size_t taken = check(ring, sizeof ring, values, sizeof values, levels, sizeof levels);
     printf("desk: solve %zu, check %zu\n", again, taken);
-    return (int)(sheet + checked.number + codes + rounds + ranked.number + again + taken);
+    return (int)(sheet + checked.number + codes + rounds + links + ranked.number + again + taken);
 }

@@ -1,5 +1,5 @@
-/* The cabinet judge: reads a case, solves it at once or round by round, totals it node by node, checks proposals by the newer code and by the
- * old one, and ranks shapes by denial.
+/* The cabinet judge: reads a case, solves it at once or round by round, totals it node by node, finds the fewest edges that make a target
+ * sure, checks proposals by the newer code and by the old one, and ranks shapes by denial.
  *
  * Link with libjudge.a, which `rt staticlib judge` writes to target/staticlib/ (x86-64 Linux). The library keeps no state, allocates
  * nothing and calls nothing: any number of threads may call it at once, each on its own tables. How much stack each call needs is
@@ -25,8 +25,8 @@
  * offsets are two more, and that the copy in a judge_unfinished has them.
  *
  * Every answer but an advance's starts with a refusal number, 0 for none, and its place; solve and check answer the number alone. A refused
- * call writes nothing, and every count of its answer, and a reply, is 0 (the code of the old check is no count: it is always 1). Otherwise
- * the leading entries of the tables are written and all later bytes keep their contents.
+ * call writes nothing, and every count of its answer, a reply and a selection are 0 (the code of the old check is no count: it is always 1).
+ * Otherwise the leading entries of the tables are written and all later bytes keep their contents.
  *
  *   number  refused because                                              place
  *   1       unknown command byte, or part byte in a command 28           the command's offset
@@ -52,6 +52,10 @@
  *   20      an edge to park is none that an earlier command 02 laid      the command's offset
  *   21      the pair asked for is not below the pair count               the pair
  *   22      unknown profile                                              the command's offset
+ *   23      the list is over 60 bytes, or no multiple of 5               its length
+ *   24      the target asked for is not below the number of targets      0
+ *           a candidate's node is not below the node count               the first such candidate, counted from 1
+ *   25      no selection of the candidates makes the target sure         0
  *
  * Reading's refusals are 1 to 9, 18 to 20 and 22. Command 03 parks an edge for good: it gives no fillers, and a later 02 does not bring it
  * back. Both commands stay on record, and each counts as an edge, in the limit too. Command 28 holds a whole rule; the parts
@@ -75,7 +79,7 @@ extern "C" {
  * that work on fillers reserve what the widest case needs; a small one clears a sixteenth of it. */
 #define JUDGE_READ_STACK (96 * 1024)     /* judge_read, judge_rank */
 #define JUDGE_ASK_STACK (160 * 1024)     /* judge_begin, judge_ask */
-#define JUDGE_SOLVE_STACK (640 * 1024)   /* judge_solve, judge_check, judge_check_supported, judge_node_totals, solve, check */
+#define JUDGE_SOLVE_STACK (640 * 1024)   /* judge_solve, judge_check, judge_check_supported, judge_node_totals, judge_fewest_edges, solve, check */
 #define JUDGE_ADVANCE_STACK (704 * 1024) /* judge_advance */
 
 /* The tables that are long enough for every case. */
@@ -83,6 +87,9 @@ extern "C" {
 #define JUDGE_MOST_LEVEL_BYTES 8192
 #define JUDGE_MOST_TARGETS 256
 #define JUDGE_MOST_SHAPES 32
+
+/* The most candidates of a list, 5 bytes each. */
+#define JUDGE_MOST_CANDIDATES 12
 
 /* What reading answers: the counts of the case, repeats and commands 03 included. */
 struct judge_reading {
@@ -137,6 +144,13 @@ struct judge_totals {
     size_t place;
     size_t valid;
     size_t undetermined;
+};
+
+/* What links to add answer: the selection, with bit i set for candidate i, the first being 0. */
+struct judge_fewest {
+    size_t number;
+    size_t place;
+    size_t selection;
 };
 
 /* A solve that may be unfinished: judge_begin makes it, judge_advance takes it on, judge_ask questions it. It is a value with nothing behind
@@ -208,6 +222,19 @@ struct judge_ranked judge_rank(const uint8_t *case_bytes, size_t case_length,
  * the number. Writes nothing. Over all nodes the counts add up to those of judge_solve. Each call solves the case anew: for the totals of
  * many nodes, judge_solve and a count of its values take one solving. */
 struct judge_totals judge_node_totals(const uint8_t *case_bytes, size_t case_length, size_t node);
+
+/* Finds the fewest candidate edges to add so that a target is sure, and of selections as small the one with the smallest number. Reading's
+ * refusals, 23, 24, 25. Writes nothing. A target's number is its place among the targets, from 0. The candidates stand one after another,
+ * each as an edge's operands: the property, one byte, then subject and object, two bytes each, low byte first. They are outside the limit of
+ * 1,024 edges.
+ * Sure is meant over the case with the chosen edges. A chosen one counts even if that edge is parked; one that is an edge already adds
+ * nothing; equal candidates are separate bits. With no candidates the one selection is 0: found if the target is sure as it is, else 25.
+ * Selections are tried by their size, since an edge more may also make a target less sure. At worst, before a 25, all of them are: 12
+ * candidates then take as long as up to 4,096 solves, and each candidate fewer halves that. A full cabinet of random records takes some
+ * hundredths of a second to four seconds, the slowest cases that are known (docs/BENCHMARKS.md) two minutes. What the target's shape does not depend
+ * on is not solved. */
+struct judge_fewest judge_fewest_edges(const uint8_t *case_bytes, size_t case_length, size_t target,
+                                       const uint8_t *candidates, size_t candidates_length);
 
 /* Begins a solve and takes no round: every pair is not yet. Reading's refusals. A refused beginning holds the case 01 00 00 FF in place of the
  * input, and is not at its end. */

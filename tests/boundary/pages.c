@@ -1,4 +1,4 @@
-/* Calls every function with each slice at the end, then at the start, of pages of its own, with pages that can't be touched on both sides. What a call may not write is read-only: the case, the tables of both checks, and every table of a call that is refused. Of unfinished solves the answers lie there, and the states in them hold what a beginning gave, anything, or nothing that is set. */
+/* Calls every function with each slice at the end, then at the start, of pages of its own, with pages that can't be touched on both sides. What a call may not write is read-only: the case, the tables of both checks, the list of candidates, and every table of a call that is refused. Of unfinished solves the answers lie there, and the states in them hold what a beginning gave, anything, or nothing that is set. */
 #define _GNU_SOURCE
 #include <signal.h>
 #include <sys/mman.h>
@@ -66,11 +66,37 @@ static size_t asked(const struct judge_reading *read, size_t i) {
   return nodes[i];
 }
 
+/* what is asked of links to add: a target, the length of a list, and whether the last node in it is none */
+struct works { size_t target, length; int unknown; };
+
+#define WORKS 9
+
+/* the longest list only where there are few pairs to solve for each of its selections */
+static struct works works(const struct judge_reading *read, size_t i) {
+  size_t last = read->targets - 1, pairs = read->nodes * read->shapes, most = pairs > 20 ? 1 : pairs > 2 ? 4 : JUDGE_MOST_CANDIDATES;
+  const struct works all[WORKS] = {
+    { 0, 0, 0 }, { 0, 5 * most, 0 }, { last, 5, 0 }, { last, 60, 1 }, { read->targets, 60, 0 }, { SIZE_MAX, 5, 1 }, { 0, 4, 0 }, { 0, 61, 1 }, { last, 65, 0 },
+  };
+  return all[i];
+}
+
+static uint8_t list[5 * (JUDGE_MOST_CANDIDATES + 1)];
+
+static void put_list(const struct judge_reading *read, struct works w) {
+  for (size_t i = 0; i <= JUDGE_MOST_CANDIDATES; i++) {
+    size_t nodes = read->nodes > 0 ? read->nodes : 1, subject = (2 + 5 * i) % nodes, object = (7 * i + 1) % nodes;
+    if (w.unknown && i + 1 == w.length / 5) object = read->nodes;
+    const uint8_t candidate[] = { (uint8_t)(i % 3), (uint8_t)subject, (uint8_t)(subject >> 8), (uint8_t)object, (uint8_t)(object >> 8) };
+    memcpy(list + 5 * i, candidate, sizeof candidate);
+  }
+}
+
 struct plain {
   struct judge_reading read;
   struct judge_solution solved;
   struct judge_ranked ranked;
   struct judge_totals totals[ASKED];
+  struct judge_fewest fewest[WORKS];
   size_t pairs;
   /* values, levels and verdicts one after another; the strata, or the filler that a refusal leaves */
   uint8_t *tables, *strata;
@@ -84,6 +110,30 @@ static void totals_on_plain_memory(const uint8_t *bytes, size_t length, struct p
     number("number of judge_node_totals", p->totals[i].number, refused ? p->read.number : none ? 5 : 0);
     number("place of judge_node_totals", p->totals[i].place, refused ? p->read.place : none ? node : 0);
     if (refused || none) number("a count of a refusal", p->totals[i].valid + p->totals[i].undetermined, 0);
+  }
+}
+
+/* a refusal where it has to be one; else a selection of what the list has, and none of them exactly where the target is sure as it is */
+static void fewest_on_plain_memory(const uint8_t *bytes, size_t length, struct plain *p) {
+  for (size_t i = 0; i < WORKS; i++) {
+    struct works w = works(&p->read, i);
+    put_list(&p->read, w);
+    struct judge_fewest got = p->fewest[i] = judge_fewest_edges(bytes, length, w.target, list, w.length);
+    struct judge_fewest refused = { p->read.number, p->read.place, 0 }, none = { 25, 0, 0 };
+    if (refused.number == 0) {
+      if (w.length > 60 || w.length % 5 != 0) refused = (struct judge_fewest){ 23, w.length, 0 };
+      else if (w.target >= p->read.targets) refused = (struct judge_fewest){ 24, 0, 0 };
+      else if (w.unknown) refused = (struct judge_fewest){ 24, w.length / 5, 0 };
+    }
+    if (refused.number == 0 && got.number != 0) refused = none;
+    number("number of judge_fewest_edges", got.number, refused.number);
+    number("place of judge_fewest_edges", got.place, refused.place);
+    if (refused.number != 0) number("the selection of a refusal", got.selection, 0);
+    if (got.selection >> w.length / 5 != 0) fail("a selection has more candidates than the list");
+    if (refused.number == 0 || refused.number == 25) {
+      uint8_t verdict = p->tables[3 * p->pairs + w.target];
+      number("whether no link has to be added", got.number == 0 && got.selection == 0, verdict == 2);
+    }
   }
 }
 
@@ -159,6 +209,18 @@ static void totals_at(struct area c, const struct plain *p) {
   for (size_t i = 0; i < ASKED; i++) {
     struct judge_totals got = judge_node_totals(c.start, c.length, asked(&p->read, i));
     same("judge_node_totals", &got, &p->totals[i], sizeof got);
+    calls++;
+  }
+}
+
+static void fewest_at(int at_end, struct area c, const struct plain *p) {
+  for (size_t i = 0; i < WORKS; i++) {
+    struct works w = works(&p->read, i);
+    put_list(&p->read, w);
+    struct area lt = place(list, w.length, at_end, 1);
+    struct judge_fewest got = judge_fewest_edges(c.start, c.length, w.target, lt.start, w.length);
+    same("judge_fewest_edges", &got, &p->fewest[i], sizeof got);
+    drop(lt);
     calls++;
   }
 }
@@ -304,6 +366,7 @@ static void all_calls_at(int at_end, const uint8_t *bytes, size_t length, const 
   solve_at(at_end, c, p->pairs, 2 * p->pairs, p->read.targets, p->read.number, p);
   rank_at(at_end, c, p->read.shapes, &p->ranked, p->strata);
   totals_at(c, p);
+  fewest_at(at_end, c, p);
   check_at(at_end, c, sound ? p->tables : filler, p->pairs, sound ? p->tables + p->pairs : filler, 2 * p->pairs, p->read.number);
   check_supported_at(at_end, c, sound ? p->tables : filler, p->pairs, p->read.number, p->read.place, p);
   if (sound) short_tables_at(at_end, c, p);
@@ -318,7 +381,9 @@ static void run(size_t i) {
   if (i == 0) {
     same("the ring's values", p.tables, "\2\2\2\2\2\0\0\0\0\2\0\0\2\2\0\0\0\0\2\2", 20);
     same("the ring's verdicts", p.tables + 60, "\2\0", 2);
+    number("the ring's link to add", judge_fewest_edges(cases[0].bytes, cases[0].length, 1, (const uint8_t *)"\0\1\0\3\0\0\3\0\1\0", 10).selection, 2);
   }
+  fewest_on_plain_memory(cases[i].bytes, cases[i].length, &p);
   for (int at_end = 0; at_end < 2; at_end++) all_calls_at(at_end, cases[i].bytes, cases[i].length, &p);
   if (p.read.number == 0) half_set(cases[i].bytes, cases[i].length, &p);
   free(p.tables), free(p.strata);
@@ -333,7 +398,7 @@ int main(int count, char **words) {
   memset(filler, 0xA5, sizeof filler);
   for (size_t i = 0; i < sizeof noise; i++) noise[i] = (uint8_t)below(256);
   for (size_t i = 0; i < case_count; i += step, done++) run(i);
-  if (calls < 140 * done) {
+  if (calls < 158 * done) {
     printf("boundary: only %zu calls on %zu cases\n", calls, done);
     return 1;
   }

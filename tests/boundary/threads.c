@@ -20,6 +20,7 @@ struct result {
   struct judge_checked checked, refused;
   struct judge_checked_old checked_old, refused_old;
   struct judge_totals totals, no_node;
+  struct judge_fewest fewest, no_target;
   size_t solve_number, check_number;
   struct judge_advanced advanced;
   uint8_t values[JUDGE_MOST_PAIRS], levels[JUDGE_MOST_LEVEL_BYTES], verdicts[JUDGE_MOST_TARGETS], strata[JUDGE_MOST_SHAPES];
@@ -38,9 +39,9 @@ static void run_asks(const uint8_t *c, size_t n, struct result *r) {
   r->no_pair = judge_ask(r->begun.unfinished, r->begun.unfinished.pairs);
 }
 
-/* the second check is of levels that are all 0, by the old code of values that are; the totals are those of the first node, and of none */
+/* the second check is of levels that are all 0, by the old code of values that are; the totals are those of the first node, and of none; one link is to be added for the first target, and for none */
 static void run_solves(const uint8_t *c, size_t n, struct result *r) {
-  static const uint8_t zeros[JUDGE_MOST_LEVEL_BYTES];
+  static const uint8_t zeros[JUDGE_MOST_LEVEL_BYTES], link[] = { 0, 1, 0, 0, 0 };
   r->solved = judge_solve(c, n, r->values, sizeof r->values, r->levels, sizeof r->levels, r->verdicts, sizeof r->verdicts);
   r->checked = judge_check(c, n, r->values, sizeof r->values, r->levels, sizeof r->levels);
   r->refused = judge_check(c, n, r->values, sizeof r->values, zeros, sizeof zeros);
@@ -48,6 +49,8 @@ static void run_solves(const uint8_t *c, size_t n, struct result *r) {
   r->refused_old = judge_check_supported(c, n, zeros, sizeof r->values);
   r->totals = judge_node_totals(c, n, 0);
   r->no_node = judge_node_totals(c, n, 512);
+  r->fewest = judge_fewest_edges(c, n, 0, link, sizeof link);
+  r->no_target = judge_fewest_edges(c, n, JUDGE_MOST_TARGETS, link, sizeof link);
   r->solve_number = solve(c, n, r->desk_values, sizeof r->desk_values, r->desk_levels, sizeof r->desk_levels, r->desk_verdicts, sizeof r->desk_verdicts);
   r->check_number = check(c, n, r->values, sizeof r->values, r->levels, sizeof r->levels);
 }

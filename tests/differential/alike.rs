@@ -1,5 +1,6 @@
 //! No 00 means profile 0 (document 02, point 8): the library held to itself on a case and on the same with 00 00 before it. Every call answers alike, but that an offset is two more.
 
+use crate::adding_kinds::random_works;
 use crate::calls;
 use crate::compare::Call;
 use crate::examine::{about, examine, filler};
@@ -99,6 +100,8 @@ pub fn examine_alike(tally: &mut Tally, r: &mut Random, case: &[u8]) {
         });
         let node = if r.one_in(2) { r.below(nodes.max(1)) } else { r.beyond(nodes) };
         alike.hold(tally, "totals", "judge_node_totals", |case| (calls::judge_node_totals(case, node), vec![]));
+        let works = random_works(r, case, 2);
+        alike.hold(tally, "fewest", "judge_fewest_edges", |case| (calls::judge_fewest_edges(case, works.target, &works.list), vec![]));
     }
     hold_proposals(tally, r, &alike);
     alike.hold_course(tally, r);

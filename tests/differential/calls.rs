@@ -41,6 +41,13 @@ pub fn judge_check_supported(c: &[u8], v: &[u8]) -> [usize; 5] {
     rested(interface::judge_check_supported(c, v))
 }
 
+/// The target's number is left behind as a node's is.
+pub fn judge_fewest_edges(c: &[u8], target: usize, candidates: &[u8]) -> [usize; 3] {
+    let number = target.to_le_bytes();
+    watch("judge_fewest_edges", &[("case", c), ("target", &number), ("candidates", candidates)]);
+    rested(interface::judge_fewest_edges(c, target, candidates))
+}
+
 pub fn judge_begin(c: &[u8]) -> Begun {
     watch("judge_begin", &[("case", c)]);
     rested(interface::judge_begin(c))

@@ -212,6 +212,19 @@ pub fn compare_sums(tally: &mut Tally, case: &[u8]) {
     totals.iter().for_each(|of_node| tally.note("totals", of_node[0]));
 }
 
+pub fn compare_fewest(tally: &mut Tally, judge: &Judge, case: &[u8], target: usize, list: &[u8]) -> [usize; 3] {
+    let number = target.to_le_bytes();
+    let call = Call { name: "judge_fewest_edges", case, tables: vec![("target", &number), ("candidates", list)] };
+    let mut lent = Table::new(list);
+    let got = call.on_lent(|case| calls::judge_fewest_edges(case, target, lent.slice()));
+    call.same(got, judge.fewest_edges(target, list));
+    if !lent.holds(list) {
+        call.fail("the list was written to".to_string());
+    }
+    tally.note("fewest", got[0]);
+    got
+}
+
 /// Two cases that the documents say are solved alike: the same answer and the same bytes in every table.
 pub fn compare_solutions(tally: &mut Tally, case: &[u8], other: &[u8], how: &str) {
     let call = Call { name: "judge_solve", case, tables: vec![] };

@@ -1,5 +1,6 @@
 //! All operations on one case: tables of many lengths, proposals of many kinds. A solve is only begun here; its turns are in unfinished_kinds.rs.
 
+use crate::adding_kinds::examine_some_links;
 use crate::calls;
 use crate::compare::*;
 use crate::generator::{without_parked, without_parks, Random};
@@ -37,11 +38,13 @@ pub fn examine(tally: &mut Tally, r: &mut Random, case: &[u8], proposals: usize)
         let newer = compare_check(tally, &judge, case, &v, &l);
         compare_supported(tally, &judge, case, &v, newer);
         compare_rank(tally, &judge, case, &s);
-        return examine_some_nodes(tally, r, &mut judge, case);
+        examine_some_nodes(tally, r, &mut judge, case);
+        return examine_some_links(tally, r, &judge, case);
     }
     examine_tables(tally, r, &mut judge, case);
     examine_proposals(tally, r, &mut judge, case, proposals);
     examine_some_nodes(tally, r, &mut judge, case);
+    examine_some_links(tally, r, &judge, case);
 }
 
 /// Tables of the exact length, longer, each one short, and of lengths at random.

@@ -1,5 +1,7 @@
-//! Random and built cases, whole and damaged. A case is kept as a list of commands until its bytes are wanted, so that damage can be done to commands as well as to bytes. Those with parts, with parked edges, with a profile and in two groups have files of their own.
+//! Random and built cases, whole and damaged. A case is kept as a list of commands until its bytes are wanted, so that damage can be done to commands as well as to bytes. Those with parts, with parked edges, with a profile, in two groups and with candidate edges have files of their own.
 
+#[path = "candidates.rs"]
+pub mod candidates;
 #[path = "nested.rs"]
 mod nested;
 #[path = "parked.rs"]

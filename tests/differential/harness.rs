@@ -1,5 +1,6 @@
 //! The library against the reference: number, place, counts and every byte of every table, on the samples of the documents, on built and damaged cases, and on random ones.
 
+mod adding_kinds;
 mod alike;
 mod calls;
 mod compare;
@@ -60,6 +61,9 @@ fn replay(file: &str) -> Result<String, String> {
     }
     if let Some(group) = part("group") {
         split_kinds::replay(&mut tally, &case, &group);
+    }
+    if let (Some(target), Some(list)) = (part("target"), part("candidates")) {
+        adding_kinds::replay(&mut tally, &case, number(&target), &list);
     }
     compare_read(&mut tally, &judge, &case);
     compare_solve(&mut tally, &mut judge, &case, &values, &levels, &table("verdicts", targets));

@@ -16,6 +16,8 @@ struct Totals([usize; 4]);
 struct CheckedOld([usize; 5]);
 #[repr(C)]
 struct Reply([usize; 3]);
+#[repr(C)]
+struct Fewest([usize; 3]);
 
 #[rustfmt::skip]
 mod foreign {
@@ -29,6 +31,7 @@ mod foreign {
         pub(super) fn judge_rank(c: *const u8, cn: usize, s: *mut u8, sn: usize) -> Ranked;
         pub(super) fn judge_node_totals(c: *const u8, cn: usize, node: usize) -> Totals;
         pub(super) fn judge_check_supported(c: *const u8, cn: usize, v: *const u8, vn: usize) -> CheckedOld;
+        pub(super) fn judge_fewest_edges(c: *const u8, cn: usize, target: usize, k: *const u8, kn: usize) -> Fewest;
         pub(super) fn judge_begin(c: *const u8, cn: usize) -> Begun;
         pub(super) fn judge_advance(u: Unfinished) -> Advanced;
         pub(super) fn judge_ask(u: Unfinished, pair: usize) -> Reply;
@@ -57,6 +60,10 @@ pub fn judge_node_totals(c: &[u8], node: usize) -> [usize; 4] {
 
 pub fn judge_check_supported(c: &[u8], v: &[u8]) -> [usize; 5] {
     unsafe { foreign::judge_check_supported(c.as_ptr(), c.len(), v.as_ptr(), v.len()).0 }
+}
+
+pub fn judge_fewest_edges(c: &[u8], target: usize, candidates: &[u8]) -> [usize; 3] {
+    unsafe { foreign::judge_fewest_edges(c.as_ptr(), c.len(), target, candidates.as_ptr(), candidates.len()).0 }
 }
 
 pub fn judge_begin(c: &[u8]) -> Begun {

@@ -6,7 +6,7 @@ use crate::generator::*;
 use crate::plan::{Kind, Plan};
 use crate::reference::Judge;
 use crate::tally::Tally;
-use crate::{old_code, park_kinds, part_kinds, profile_kinds, samples, split_kinds, totals, unfinished_kinds};
+use crate::{adding_kinds, old_code, park_kinds, part_kinds, profile_kinds, samples, split_kinds, totals, unfinished_kinds};
 
 pub type Cases = Vec<Vec<u8>>;
 
@@ -82,6 +82,7 @@ pub fn kinds(plan: &Plan) -> Vec<Kind<Tally>> {
     kinds.extend(unfinished_kinds::kinds(plan));
     kinds.extend(profile_kinds::kinds(plan));
     kinds.extend(split_kinds::kinds());
+    kinds.extend(adding_kinds::kinds());
     kinds
 }
 

@@ -52,6 +52,15 @@ pub(super) fn edges_of(case: &[u8]) -> (Vec<&[u8]>, usize, usize) {
     (edges, start, end)
 }
 
+pub(super) fn number_at(bytes: &[u8], at: usize) -> usize {
+    bytes[at] as usize + 256 * bytes[at + 1] as usize
+}
+
+/// The node count of a case that reads.
+pub(super) fn nodes_of(case: &[u8]) -> usize {
+    number_at(case, edges_of(case).1 - 2)
+}
+
 /// A case that reads, with these commands in the place of its edges.
 pub(super) fn with_edges(case: &[u8], edges: Commands) -> Vec<u8> {
     let (_, start, end) = edges_of(case);

@@ -1,4 +1,4 @@
-//! Samples held to the library alone: those of document 01, as document 02 has changed them, and some of rules inside rules, of parked edges, of totals by fitting, of the old code, of unfinished solves and of profiles, worked out by hand; every expected number is the documents'.
+//! Samples held to the library alone: those of document 01, as document 02 has changed them, and some of rules inside rules, of parked edges, of totals by fitting, of the old code, of unfinished solves, of profiles and of links to add, worked out by hand; every expected number is the documents'.
 
 use crate::calls::*;
 use crate::generator::{without_parked, without_parks, Random};
@@ -86,6 +86,8 @@ pub fn run() -> usize {
     unfinished(&mut held);
     refused_profiles(&mut held);
     roads(&mut held);
+    found_links(&mut held);
+    refused_links(&mut held);
     held.0
 }
 
@@ -521,4 +523,82 @@ fn roads(held: &mut Held) {
         held.same("ring of a profile, read", judge_read(&ring), [0, 0, 4, 4, 2, 5, 2]);
         held.same("ring of a profile", solved(&ring), solved(&hex(RING)));
     }
+}
+
+// ---- Links to add (document 02, point 10)
+
+fn found_links(held: &mut Held) {
+    let mut of = |name: &str, text: &str, target: usize, list: &str, expected: [usize; 3]| held.same(name, judge_fewest_edges(&hex(text), target, &hex(list)), expected);
+    let none = [25, 0, 0];
+    let found = |selection: usize| [0, 0, selection];
+
+    // fitting 2 is linked once it, or 3, relays to 1 or to the gateway, or has a gateway's own edge
+    of("ring, sure already", RING, 0, "", found(0));
+    of("ring, sure already, a candidate", RING, 0, "00 02 00 01 00", found(0));
+    of("ring, no candidates", RING, 1, "", none);
+    of("ring, one link", RING, 1, "00 03 00 01 00", found(1));
+    of("ring, the other way", RING, 1, "00 01 00 03 00", none);
+    of("ring, another property", RING, 1, "02 03 00 01 00", none);
+    of("ring, an edge that is there", RING, 1, "00 02 00 03 00", none);
+    of("ring, as few", RING, 1, "00 03 00 01 00, 00 02 00 01 00", found(1));
+    of("ring, behind others", RING, 1, "00 01 00 02 00, 00 02 00 03 00, 00 02 00 01 00, 01 02 00 02 00", found(4));
+    of("ring, the twelfth", RING, 1, &format!("{} 00 02 00 01 00", "00 01 00 03 00, ".repeat(11)), found(2048));
+    of("nested ring, one link", NESTED_RING, 1, "00 01 00 02 00, 00 03 00 01 00", found(2));
+
+    // the relay of 1 is parked, and so two links are missing
+    of("parked ring, the parked one", PARKED_RING, 0, "00 01 00 00 00", found(1));
+    of("parked ring, one of two", PARKED_RING, 1, "00 03 00 01 00", none);
+    of("parked ring, both", PARKED_RING, 1, "00 01 00 00 00, 00 03 00 01 00", found(3));
+    of("parked ring, equal ones", PARKED_RING, 1, "00 01 00 00 00, 00 01 00 00 00, 00 03 00 01 00", found(5));
+    of("parked ring, fewer with a larger number", PARKED_RING, 1, "00 01 00 00 00, 00 03 00 01 00, 00 02 00 00 00", found(4));
+    of("parked twice and laid again", "01 02 00, 02 00 00 00 01 00, 03 00 00 00 01 00, 03 00 00 00 01 00, 02 00 00 00 01 00, 10 00, 20, 27 01 00 00, 30 01 00 00, FF", 0, "00 00 00 01 00", found(1));
+
+    // at least one on that is node 1, and all on are: another one on spoils it
+    let spoilt = "10 00, 21 01 00, 26 00 00, 27 01 00 00, 22 01 02, 30 03 00 00, FF";
+    of("one of two alone", &format!("01 03 00, {spoilt}"), 0, "00 00 00 02 00, 00 00 00 01 00", found(2));
+    of("spoilt already", &format!("01 03 00, 02 00 00 00 02 00, {spoilt}"), 0, "00 00 00 02 00, 00 00 00 01 00", none);
+    of("a not, sure without the link", "01 02 00, 10 00, 20, 27 01 00 00, 24 01, 30 02 00 00, FF", 0, "00 00 00 01 00", found(0));
+
+    // open is not sure: who can move to a loser wins
+    let game = "01 02 00, 02 00 00 00 00 00, 10 00, 27 01 00 01, 24 00, 30 00 00 00, FF";
+    of("open", game, 0, "", none);
+    of("open until it can move to a loser", game, 0, "00 01 00 01 00, 00 00 00 01 00", found(2));
+
+    let gaps = format!("01 0D 00, 10 00, 21 00 00, 23 00 02, 27 01 00 01, {} FF", (0..13).map(|node| format!("30 01 {node:02X} 00, ")).collect::<String>());
+    let relays = |count: usize| (1..=count).map(|node| format!("00 {node:02X} 00 {:02X} 00, ", node - 1)).collect::<String>();
+    for count in [1, 2, 11, 12] {
+        of("all of them", &gaps, count, &relays(count), found((1 << count) - 1));
+        of("one too few", &gaps, count, &relays(count - 1), none);
+    }
+    of("five of twelve", &gaps, 5, &relays(12), found(31));
+
+    let crowded = format!("01 02 00, {} 10 00, 20, 27 01 00 00, 30 01 00 00, FF", "02 07 00 00 01 00, ".repeat(1024));
+    of("beside 1,024 edges", &crowded, 0, &format!("{} 00 00 00 00 00", "07 00 00 00 00, ".repeat(11)), found(2048));
+    of("a road", ROAD, 1, "00 FE 00 FF 01, 00 FE 01 FF 00, 00 FE 01 2C 01", found(4));
+}
+
+fn refused_links(held: &mut Held) {
+    let mut of = |name: &str, text: &str, target: usize, list: &[u8], expected: [usize; 3]| held.same(name, judge_fewest_edges(&hex(text), target, list), expected);
+    let relay = hex("00 03 00 01 00");
+    for (length, number) in [(0, 25), (1, 23), (4, 23), (5, 0), (6, 23), (55, 0), (59, 23), (60, 0), (61, 23), (64, 23), (65, 23), (120, 23)] {
+        let place = if number == 23 { length } else { 0 };
+        of("a list's length", RING, 1, &relay.repeat(24)[..length], [number, place, (number == 0) as usize]);
+        of("a list's length, no target", RING, 2, &relay.repeat(24)[..length], if number == 23 { [23, length, 0] } else { [24, 0, 0] });
+    }
+    for none in [2, 3, 255, 256, 1 << 16, 1 << 32, usize::MAX] {
+        of("no target", RING, none, &relay, [24, 0, 0]);
+    }
+    of("no targets", "01 04 00, 20, FF", 0, &relay, [24, 0, 0]);
+    of("no nodes", "01 00 00, FF", 0, &relay, [24, 0, 0]);
+    for (list, place) in [("00 04 00 01 00", 1), ("00 03 00 04 00", 1), ("00 03 01 01 00", 1), ("00 03 00 01 00, 00 03 00 01 01", 2), ("00 03 00 01 00, 00 FF FF FF FF, 00 04 00 04 00", 2)] {
+        of("an unknown node", RING, 1, &hex(list), [24, place, 0]);
+        of("an unknown node, sure already", RING, 0, &hex(list), [24, place, 0]);
+        of("an unknown node, no target", RING, 2, &hex(list), [24, 0, 0]);
+        of("an unknown node and a rest", RING, 1, &[hex(list), vec![0]].concat(), [23, hex(list).len() + 1, 0]);
+    }
+    of("the twelfth unknown", RING, 1, &[relay.repeat(11), hex("00 00 00 04 00")].concat(), [24, 12, 0]);
+    of("node 512 of a road", ROAD, 1, &hex("00 FE 01 00 02"), [24, 1, 0]);
+    of("empty input, links", "", 7, &[0; 61], [3, 0, 0]);
+    of("8 before 23", "01 00 00, FF 00", 7, &[0; 61], [8, 4, 0]);
+    of("9 before 24", "01 01 00, 24 01, FF", 7, &relay, [9, 3, 0]);
 }

@@ -43,6 +43,16 @@ pub unsafe extern "C" fn judge_check_supported(c: *const u8, cn: usize, v: *cons
     Row(faults::check_supported(from_raw_parts(c, cn), from_raw_parts(v, vn)))
 }
 
+#[no_mangle]
+pub unsafe extern "C" fn judge_fewest_edges(c: *const u8, cn: usize, target: usize, k: *const u8, kn: usize) -> Row<3> {
+    faults::stray_about("fewest-case", c, cn);
+    faults::stray_about("fewest-list", k, kn);
+    let answer = Row(faults::fewest_edges(from_raw_parts(c, cn), target, from_raw_parts(k, kn)));
+    faults::scribble("fewest-case", c, cn);
+    faults::scribble("fewest-list", k, kn);
+    answer
+}
+
 // On x86-64 the place of an answer in memory is a first argument; declared so, a fault can write beside it.
 
 #[no_mangle]

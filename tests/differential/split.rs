@@ -9,14 +9,6 @@ pub fn rest(group: &[bool]) -> Vec<bool> {
     group.iter().map(|is| !is).collect()
 }
 
-fn number_at(bytes: &[u8], at: usize) -> usize {
-    bytes[at] as usize + 256 * bytes[at + 1] as usize
-}
-
-fn nodes_of(case: &[u8]) -> usize {
-    number_at(case, edges_of(case).1 - 2)
-}
-
 /// Subject and object.
 fn ends(edge: &[u8]) -> [usize; 2] {
     [2, 4].map(|at| number_at(edge, at))

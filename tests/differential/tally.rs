@@ -3,14 +3,14 @@
 use crate::plan::{Group, Work};
 use crate::reference::parts::Part;
 use crate::reference::{Case, Edge};
-use crate::{old_code, proposals, split_kinds, totals, unfinished_kinds};
+use crate::{adding_kinds, old_code, proposals, split_kinds, totals, unfinished_kinds};
 use std::collections::BTreeMap;
 
 /// The numbers that reading can answer, and every other operation too.
 const READING: [usize; 14] = [0, 1, 2, 3, 4, 5, 6, 7, 8, 9, 18, 19, 20, 22];
 
 /// The operations, each with what it can answer beside.
-const OPERATIONS: [(&str, &[usize]); 7] = [("read", &[]), ("solve", &[10, 11, 12]), ("check", &[10, 11, 13, 14, 15]), ("rank", &[16, 17]), ("totals", &[]), ("old check", &[10, 13, 14]), ("begin", &[])];
+const OPERATIONS: [(&str, &[usize]); 8] = [("read", &[]), ("solve", &[10, 11, 12]), ("check", &[10, 11, 13, 14, 15]), ("rank", &[16, 17]), ("totals", &[]), ("old check", &[10, 13, 14]), ("begin", &[]), ("fewest", &[23, 24, 25])];
 
 /// Those that read no input: what an advance tells, and the numbers of a question.
 const UNREAD: [(&str, [usize; 2]); 2] = [("advance", [0, 1]), ("ask", [0, 21])];
@@ -61,7 +61,7 @@ fn profile_kinds(case: &Case) -> Vec<&'static str> {
 
 /// What is counted by kind and not by number.
 fn kinds() -> Vec<(&'static str, Vec<&'static str>)> {
-    vec![("proposals", proposals::names()), ("profiles", PROFILES.to_vec()), ("fresh shapes", FRESH.to_vec()), ("parks", PARKS.to_vec()), ("parked edges", vec!["that change values", "that change none"]), ("nodes asked", totals::ASKED.to_vec()), ("old code", old_code::KINDS.to_vec()), ("courses", unfinished_kinds::COURSES.to_vec()), ("states", unfinished_kinds::STATES.to_vec()), ("questions", unfinished_kinds::QUESTIONS.to_vec()), ("splits", split_kinds::SPLITS.to_vec()), ("groups", split_kinds::GROUPS.to_vec()), ("edges across", split_kinds::ACROSS.to_vec())]
+    vec![("proposals", proposals::names()), ("profiles", PROFILES.to_vec()), ("fresh shapes", FRESH.to_vec()), ("parks", PARKS.to_vec()), ("parked edges", vec!["that change values", "that change none"]), ("nodes asked", totals::ASKED.to_vec()), ("old code", old_code::KINDS.to_vec()), ("courses", unfinished_kinds::COURSES.to_vec()), ("states", unfinished_kinds::STATES.to_vec()), ("questions", unfinished_kinds::QUESTIONS.to_vec()), ("splits", split_kinds::SPLITS.to_vec()), ("groups", split_kinds::GROUPS.to_vec()), ("edges across", split_kinds::ACROSS.to_vec()), ("target numbers", adding_kinds::TARGETS.to_vec()), ("candidates", adding_kinds::CANDIDATES.to_vec()), ("what is wrong", adding_kinds::REFUSALS.to_vec()), ("selections found", adding_kinds::FOUND.to_vec()), ("other selections", adding_kinds::OTHERS.to_vec())]
 }
 
 #[derive(Default)]

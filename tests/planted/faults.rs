@@ -1,7 +1,8 @@
 //! Wrong answers to plant in the library's stand-in, one at a time: JUDGE_FAULT in the environment names one, and without it the stand-in answers as the reference does. tests/planted/run says which test has to find which.
 
+use crate::reference::adding::{candidates, chosen, selections, size};
 use crate::reference::unfinished::{Advanced, Begun, Unfinished};
-use crate::reference::{sets, Case, Judge, Shape};
+use crate::reference::{sets, Case, Judge, Link, Shape};
 use std::sync::atomic::{AtomicU8, Ordering};
 use std::sync::Mutex;
 
@@ -262,6 +263,116 @@ pub fn node_totals(case: &[u8], node: usize) -> [usize; 4] {
     answer
 }
 
+pub fn fewest_edges(case: &[u8], target: usize, list: &[u8]) -> [usize; 3] {
+    let judge = Judge::new(case);
+    let mut answer = judge.fewest_edges(target, list);
+    let fault = fault();
+    let [number, place, selection] = answer;
+    match (fault.as_str(), &judge.read) {
+        ("place", _) => answer = misplaced(answer),
+        ("fewest-stack", _) => spend_stack(640),
+        ("selection-kept", _) if number != 0 => answer[2] = 1,
+        ("target-cut", _) => answer = judge.fewest_edges(target & 0xFFFF, list),
+        // what is wrong with the list and the target, otherwise judged
+        ("length-in-candidates", _) if number == 23 => answer[1] = list.len() / 5,
+        ("rest-let-in", _) if number == 23 && list.len() < 65 => answer = judge.fewest_edges(target, &list[..list.len() / 5 * 5]),
+        ("thirteen-let-in", _) if number == 23 && list.len() == 65 => answer = judge.fewest_edges(target, &list[..60]),
+        ("24-first", Ok(case)) if number == 23 && target >= case.targets.len() => answer = [24, 0, 0],
+        ("node-24-first", Ok(case)) if number == 23 => answer = unknown_node(case, list).unwrap_or(answer),
+        ("candidate-first", Ok(case)) if number == 24 => answer = unknown_node(case, list).unwrap_or(answer),
+        ("from-0", _) if number == 24 && place > 0 => answer[1] -= 1,
+        ("last-unknown", Ok(case)) if number == 24 && place > 0 => answer[1] = unknown_nodes(case, list).pop().unwrap() + 1,
+        ("target-place", _) if number == 24 && place == 0 => answer[1] = target,
+        ("25-place", _) if number == 25 => answer[1] = list.len() / 5,
+        // an empty list is taken for no selection at all
+        ("none-is-25", _) if number == 0 && list.is_empty() => answer = [25, 0, 0],
+        ("high-bytes-left-out", _) if list.len() % 5 == 0 => {
+            let low: Vec<u8> = list.chunks(5).flat_map(|candidate| [candidate[0], candidate[1], 0, candidate[3], 0]).collect();
+            answer = judge.fewest_edges(target, &low);
+        }
+        (_, Ok(case)) if [0, 25].contains(&number) => answer = wrongly_found(&fault, case, target, &candidates(list)).unwrap_or(answer),
+        _ => {}
+    }
+    // the number too, for most selections are alike
+    if fault == "shared-fewest" {
+        let mut found = [number as u8, selection as u8];
+        pass_through_shared(&mut found);
+        answer = [found[0].into(), place, found[1] as usize + selection / 256 * 256];
+    }
+    answer
+}
+
+/// The candidates of a list, whatever its length, of which a node is not there.
+fn unknown_nodes(case: &Case, list: &[u8]) -> Vec<usize> {
+    let candidates = candidates(list);
+    (0..candidates.len()).filter(|i| candidates[*i].1.max(candidates[*i].2) >= case.nodes).collect()
+}
+
+fn unknown_node(case: &Case, list: &[u8]) -> Option<[usize; 3]> {
+    unknown_nodes(case, list).first().map(|at| [24, at + 1, 0])
+}
+
+/// What is found by another sense of the fewest, of sure, or of the candidates.
+fn wrongly_found(fault: &str, case: &Case, target: usize, list: &[Link]) -> Option<[usize; 3]> {
+    let links = |selection: usize| chosen(list, selection);
+    let verdict = |selection: usize| case.verdict_with(target, &links(selection));
+    let sure = |selection: &usize| verdict(*selection) == 2;
+    let all = || selections(list.len());
+    let by_size = |selection: &usize| (size(*selection), *selection);
+    let edges = |link: &Link, parks: bool| case.edges.iter().any(|edge| edge.parks == parks && edge.link == *link);
+    let found = match fault {
+        "number-alone" => all().find(sure),
+        "largest-number" => all().filter(sure).min_by_key(|selection| (size(*selection), !*selection)),
+        "most" => all().filter(sure).max_by_key(by_size),
+        "singles" => all().filter(|selection| size(*selection) < 2 && sure(selection)).min_by_key(by_size),
+        "pairs-at-most" => all().filter(|selection| size(*selection) < 3 && sure(selection)).min_by_key(by_size),
+        // as if more edges never made a target less sure
+        "all-at-first" if verdict(all().end - 1) != 2 => None,
+        "one-less-at-a-time" => sure(&(all().end - 1)).then(|| (0..list.len()).fold(all().end - 1, |kept, i| if sure(&(kept & !(1 << i))) { kept & !(1 << i) } else { kept })),
+        "open-taken" => all().filter(|selection| verdict(*selection) > 0).min_by_key(by_size),
+        "as-it-was" => all().filter(|_| verdict(0) == 2).min_by_key(by_size),
+        "any-target" => all().filter(|selection| (0..case.targets.len()).any(|other| case.verdict_with(other, &links(*selection)) == 2)).min_by_key(by_size),
+        "parked-left-out" => all().filter(|selection| {
+            let unparked: Vec<Link> = links(*selection).into_iter().filter(|link| !edges(link, true)).collect();
+            case.verdict_with(target, &unparked) == 2
+        }).min_by_key(by_size),
+        "within-the-limit" => all().filter(|selection| case.edges.len() + size(*selection) <= 1024 && sure(selection)).min_by_key(by_size),
+        // bits of other candidates
+        "last-is-bit-0" => all().filter(sure).map(|selection| (0..list.len()).map(|i| (selection >> i & 1) << (list.len() - 1 - i)).sum()).min_by_key(by_size),
+        "equal-as-one" => return found_among(case, target, &(0..list.len()).filter(|i| !list[..*i].contains(&list[*i])).map(|i| list[i]).collect::<Vec<_>>()),
+        "edges-not-counted" => return found_among(case, target, &list.iter().copied().filter(|link| !edges(link, false)).collect::<Vec<_>>()),
+        "ends-changed-round" => return found_among(case, target, &list.iter().map(|(p, a, b)| (*p, *b, *a)).collect::<Vec<_>>()),
+        "any-property" => return found_among(case, target, &list.iter().map(|(_, a, b)| (0, *a, *b)).collect::<Vec<_>>()),
+        // the shapes behind a not are taken for ones that the target does not depend on
+        "denied-as-top" => return found_among(&denied_as_top(case, target), target, list),
+        _ => return None,
+    };
+    Some(found.map_or([25, 0, 0], |selection| [0, 0, selection]))
+}
+
+fn found_among(case: &Case, target: usize, list: &[Link]) -> Option<[usize; 3]> {
+    let sure = selections(list.len()).filter(|selection| case.verdict_with(target, &chosen(list, *selection)) == 2);
+    Some(sure.min_by_key(|selection| (size(*selection), *selection)).map_or([25, 0, 0], |selection| [0, 0, selection]))
+}
+
+/// The case with those shapes as top to which no walk of references without a not leads from a target's shape.
+fn denied_as_top(case: &Case, target: usize) -> Case {
+    let mut reached = vec![case.targets[target].0];
+    let mut at = 0;
+    while at < reached.len() {
+        let references = match case.shapes[reached[at]] {
+            Shape::And(s, t) | Shape::Or(s, t) => vec![s, t],
+            Shape::All(_, s) | Shape::AtLeast(_, _, s) => vec![s],
+            _ => vec![],
+        };
+        reached.extend(references.into_iter().filter(|s| !reached.contains(s)).collect::<Vec<_>>());
+        at += 1;
+    }
+    let mut case = case.clone();
+    (0..case.shapes.len()).filter(|s| !reached.contains(s)).for_each(|s| case.shapes[s] = Shape::Top);
+    case
+}
+
 pub fn begin(case: &[u8]) -> Begun {
     let judge = Judge::new(case);
     let mut begun = judge.beginning(case);
@@ -375,6 +486,14 @@ pub unsafe fn stray_about(name: &str, slice: *const u8, length: usize) {
         Some("-before") => drop(slice.sub(1).read_volatile()),
         Some("-crash") => std::process::abort(),
         _ => {}
+    }
+}
+
+/// Writes to the last byte of a slice that is only lent.
+pub unsafe fn scribble(name: &str, slice: *const u8, length: usize) {
+    if fault().strip_prefix(name) == Some("-written") && length > 0 {
+        let last = slice.add(length - 1);
+        last.cast_mut().write_volatile(!last.read());
     }
 }
 

@@ -1,7 +1,7 @@
 //! Cases as facts for clingo and SWI-Prolog, and their answers.
 
 use crate::reference::parts::Part;
-use crate::reference::{Case, Edge, Path, Shape};
+use crate::reference::{Case, Edge, Link, Path, Shape};
 use std::process::{Command, Stdio};
 
 /// What a solver goes by: the rules of the expansion, or each written shape as it is written, part by part.
@@ -85,6 +85,11 @@ pub fn shape_facts(k: usize, case: &Case) -> String {
 pub fn facts(k: usize, case: &Case, by: By) -> String {
     // not is a word of clingo's
     format!("case({k}).\nnodes({k},{}).\n{}", case.nodes, common(k, case, by).replace("not(", "deny("))
+}
+
+/// The edges that are to be added to case k.
+pub fn chosen_facts(k: usize, links: &[Link]) -> String {
+    links.iter().map(|(p, a, b)| format!("chosen({k},{p},{a},{b}).\n")).collect()
 }
 
 pub fn prolog_facts(k: usize, case: &Case, by: By) -> String {

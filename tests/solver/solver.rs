@@ -1,4 +1,4 @@
-//! The library against public solvers: clingo enumerates all stable and all supported assignments of small cases and gives the cautious and brave consequences of larger ones; SWI-Prolog gives the well-founded model.
+//! The library against public solvers: clingo enumerates all stable and all supported assignments of small cases and gives the cautious and brave consequences of larger ones; SWI-Prolog gives the well-founded model. With each selection of candidate edges as a case of its own, clingo says which make a target sure.
 //! Rules inside rules are given to them twice: as the expansion, and as they are written, which the expansion has to agree with.
 
 #[allow(dead_code)]
@@ -27,9 +27,11 @@ mod watch;
 mod facts;
 
 use facts::*;
+use generator::candidates::*;
 use generator::*;
 use plan::{Group, Kind, Plan, Work};
 use proposals::*;
+use reference::adding::{candidates, chosen, selections, size};
 use reference::Case;
 use std::collections::BTreeSet;
 
@@ -54,11 +56,7 @@ impl Asked {
     }
 
     fn fail(&self, difference: String) -> ! {
-        let hex: String = self.bytes.iter().map(|b| format!("{b:02X} ")).collect();
-        std::fs::write(watch::stored(), format!("# {difference}\ncase {hex}\n")).ok();
-        println!("solver: {difference}");
-        println!("solver: case stored in {}", watch::stored());
-        std::process::exit(1);
+        fail(&[("case", &self.bytes)], difference)
     }
 
     fn accepts(&self, values: &[u8], levels: &[usize]) -> bool {
@@ -82,6 +80,16 @@ impl Asked {
         }
         answer[0]
     }
+}
+
+/// Leaves behind what the library was given.
+fn fail(parts: &[(&str, &[u8])], difference: String) -> ! {
+    let hex = |bytes: &[u8]| bytes.iter().map(|b| format!(" {b:02X}")).collect::<String>();
+    let lines: String = parts.iter().map(|(name, bytes)| format!("{name}{}\n", hex(bytes))).collect();
+    std::fs::write(watch::stored(), format!("# {difference}\n{lines}")).ok();
+    println!("solver: {difference}");
+    println!("solver: case stored in {}", watch::stored());
+    std::process::exit(1);
 }
 
 /// How much was compared.
@@ -111,11 +119,15 @@ struct Tally {
     supported: usize,
     unfounded: usize,
     unsupported: usize,
+    /// lists of candidates, by what is found: no edge, some, no selection
+    as_it_is: usize,
+    with_links: usize,
+    not_at_all: usize,
 }
 
 impl Work for Tally {
     fn done(&self) -> usize {
-        self.enumerated + self.consequences + self.well_founded + self.all_supported
+        self.enumerated + self.consequences + self.well_founded + self.all_supported + self.as_it_is + self.with_links + self.not_at_all
     }
 }
 
@@ -138,6 +150,9 @@ impl Tally {
             ("supported assignments", self.supported),
             ("supported and not stable", self.unfounded),
             ("not supported", self.unsupported),
+            ("sure without a link", self.as_it_is),
+            ("sure with links", self.with_links),
+            ("sure with none", self.not_at_all),
         ];
         ("compared", counts.map(|(name, count)| (name.to_string(), count)).to_vec())
     }
@@ -272,12 +287,7 @@ fn consequences(tally: &mut Tally, batch: &[Asked], by: By) {
     for (k, asked) in batch.iter().enumerate() {
         program += &facts(k, &asked.case, by);
     }
-    let last = |mode: &str| {
-        let out = clingo("consequences", &program, &["0", mode]);
-        let last = answers(&out).pop().expect("an answer");
-        last.into_iter().map(|(name, numbers)| (name.to_string(), numbers)).collect::<Vec<_>>()
-    };
-    let (cautious, brave) = (last("--enum-mode=cautious"), last("--enum-mode=brave"));
+    let (cautious, brave) = (last_answer(&program, "--enum-mode=cautious"), last_answer(&program, "--enum-mode=brave"));
     for (k, asked) in batch.iter().enumerate() {
         let borrowed = |list: &[(String, Vec<usize>)], wanted: &str| -> BTreeSet<usize> {
             let of_case = list.iter().filter(|(name, numbers)| name == wanted && numbers[0] == k);
@@ -293,6 +303,65 @@ fn consequences(tally: &mut Tally, batch: &[Asked], by: By) {
     match by {
         By::Expansion => tally.consequences += batch.len(),
         By::Parts => tally.consequences_by_parts += batch.len(),
+    }
+}
+
+/// The consequences of a program in one of clingo's modes: its last answer.
+fn last_answer(program: &str, mode: &str) -> Vec<(String, Vec<usize>)> {
+    let out = clingo("consequences", program, &["0", mode]);
+    let last = answers(&out).pop().expect("an answer");
+    last.into_iter().map(|(name, numbers)| (name.to_string(), numbers)).collect()
+}
+
+/// The fewest edges to add. Each selection is a case of its own, and clingo works out for itself what the chosen edges change; the target is sure where every stable assignment has it valid.
+fn fewest(tally: &mut Tally, batch: &[Works]) {
+    let cases: Vec<Asked> = batch.iter().map(|works| Asked::new(&vec![works.case.clone()])).collect();
+    let mut program = String::from("on(K) :- case(K).\n#show v/3.\n");
+    let mut first = vec![0];
+    for (works, asked) in batch.iter().zip(&cases) {
+        let (k, list) = (first[first.len() - 1], candidates(&works.list));
+        for selection in selections(list.len()) {
+            program += &(facts(k + selection, &asked.case, By::Expansion) + &chosen_facts(k + selection, &chosen(&list, selection)));
+        }
+        first.push(k + selections(list.len()).len());
+    }
+    let valid: BTreeSet<Vec<usize>> = last_answer(&program, "--enum-mode=cautious").into_iter().map(|(_, numbers)| numbers).collect();
+    for ((works, asked), k) in batch.iter().zip(&cases).zip(first) {
+        let (shape, node) = asked.case.targets[works.target];
+        let sure = |selection: usize| valid.contains(&vec![k + selection, shape, node]);
+        let (pair, value) = (asked.case.pair(shape, node), asked.values[asked.case.pair(shape, node)]);
+        if (value == 2) != sure(0) {
+            asked.fail(format!("clingo: pair {pair} is solved {value}; valid in all {}", sure(0)));
+        }
+        let smallest = selections(works.list.len() / 5).filter(|selection| sure(*selection)).min_by_key(|selection| (size(*selection), *selection));
+        let expected = smallest.map_or([25, 0, 0], |selection| [0, 0, selection]);
+        let got = calls::judge_fewest_edges(&works.case, works.target, &works.list);
+        if got != expected {
+            let target = works.target.to_le_bytes();
+            fail(&[("case", &works.case), ("target", &target), ("candidates", &works.list)], format!("clingo: the fewest edges are {got:?}, expected {expected:?}"));
+        }
+        match smallest {
+            Some(0) => tally.as_it_is += 1,
+            Some(_) => tally.with_links += 1,
+            None => tally.not_at_all += 1,
+        }
+    }
+}
+
+/// A broken road, or a case drawn that has targets, and up to three candidates.
+fn works(r: &mut Random) -> Works {
+    if r.one_in(2) {
+        let fittings = r.range(2, 5);
+        return broken_road(r, None, fittings, fittings, 3);
+    }
+    loop {
+        let size = if r.one_in(2) { small_parked(r) } else { small_nested(r) };
+        let case = bytes(&random_case(r, &size));
+        let targets = reference::read(&case).expect("a sound case").targets.len();
+        if targets > 0 {
+            let count = r.range(0, 3);
+            return Works { target: r.below(targets), list: random_list(r, &case, count), case };
+        }
     }
 }
 
@@ -448,6 +517,10 @@ fn kinds() -> Vec<Kind<Tally>> {
         }),
         Kind::drawn("supported, nested tiny", 3, |tally, r, _| {
             hold_to_supported(tally, &batch(r, 40, tiny_nested));
+        }),
+        Kind::drawn("links to add", 40, |tally, r, _| {
+            let batch: Vec<Works> = (0..30).map(|_| works(r)).collect();
+            fewest(tally, &batch);
         }),
     ]
 }

@@ -73,7 +73,7 @@ fn wide(byte: u8) -> u16
 }
 
 // The number of `width` bytes at `at`, low byte first.
-fn number_at(part: &[u8], at: usize, width: u8) -> u16
+pub fn number_at(part: &[u8], at: usize, width: u8) -> u16
     requires { ⌜ at + width ≤ length (now part) ⌝ }
     ensures { λ r. ⌜ r ≡ numberAt (now (part .entry)) at width ⌝ }
 {

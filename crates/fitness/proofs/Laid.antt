@@ -1,7 +1,7 @@
 -- Refusal 20: two edges compared, and an edge looked for among those so far. Assumes nothing.
 use Prim.Native.Nat.{ℕ, _+_, _≤_, _<_}
 use native.Mathlib.Omega.{arith}
-use mathlib.Core.Path.{_≡_, refl, sym, _∙_}
+use mathlib.Core.Path.{_≡_, refl, sym, ap, _∙_}
 use mathlib.Core.Bool.{Bool, true, false, not, _||_, and-true, and-false}
 use mathlib.Core.List.{List, map}
 use lib.Dec.{eqb}
@@ -9,9 +9,11 @@ use borrow.Author.Tests.{eq-eqb, ne-eqb}
 use Rattle.fixpoint.specs.Lists.{upTo, any}
 use Rattle.fixpoint.proofs.Lists.{any-map, any-none, any-more, any-upTo-of}
 use Rattle.cases.specs.declared.command.Edge.{Edge}
+use Rattle.cases.specs.declared.command.Row.{Row}
 use Rattle.cases.specs.Case.{edgeIs}
 use Rattle.cases.specs.Faults.{laid}
-use Rattle.cases.specs.Rows.{edgeIn}
+use Rattle.cases.specs.Format.{edgeOf}
+use Rattle.cases.specs.Rows.{rowIn, edgeIn}
 
 -- ---- Two edges, operand by operand
 
@@ -43,6 +45,11 @@ module _ (e d : Edge) where
       (sym (and-true (eqb (e .code) 0x02)))
 
 -- ---- The edges so far
+
+-- the edge of a row that was read
+pub edge-read : (i : ℕ) (rows : List ℕ) {row : Row} {e : Edge} → row ≡ rowIn rows i → e ≡ edgeOf row → e ≡ edgeIn rows i
+unfolding edgeIn
+edge-read i rows r f = f ∙ ap edgeOf r
 
 -- none of the edges below i is the one
 pub record NoneLaid (edge : Edge) (edges : ℕ) (rows : List ℕ) (i : ℕ) : Type 0 where

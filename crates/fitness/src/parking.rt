@@ -3,12 +3,14 @@ use cases::command::Command;
 use cases::command::Edge;
 use cases::command::LAID;
 use cases::command::PARKED;
-use cases::rows::edge_in;
+use cases::command::edge_of;
+use cases::rows::row_in;
 ghost use mathlib.Core.Path.{_≡_};
 ghost use mathlib.Core.Bool.{not, _||_};
 ghost use mathlib.Core.List.{map};
-ghost use Prim.Native.Nat.{_≤_};
+ghost use Prim.Native.Nat.{_*_, _≤_};
 ghost use lib.Dec.{eqb};
+ghost use lib.ListN.{length};
 ghost use Rattle.fixpoint.specs.Lists.{upTo};
 ghost use Rattle.cases.specs.Case.{edgeIs};
 ghost use Rattle.cases.specs.Faults.{laid, edgeThere};
@@ -31,15 +33,14 @@ fn lays(edge: Edge, other: Edge) -> bool
 }
 
 // Whether it is one of the first so many edges in the rows.
-fn is_laid(edge: Edge, edges: usize, rows: &[u16]) -> bool
-    requires { ⌜ Full (now rows) ⌝ }
-    requires { ⌜ edges ≤ 1036 ⌝ }
+pub fn is_laid(edge: Edge, edges: usize, rows: &[u16]) -> bool
+    requires { ⌜ 4 * edges ≤ length (now rows) ⌝ }
     ensures { λ r. ⌜ r ≡ laid (map (edgeIn (now (rows .entry))) (upTo edges)) edge ⌝ }
 {
     let mut i = 0;
     // none of the edges below i
     while i < edges {
-        if lays(edge_in(rows, i), edge) {
+        if lays(edge_of(row_in(rows, i)), edge) {
             return true;
         }
         i += 1;

@@ -22,7 +22,7 @@ use Rattle.checker.proofs.Answered.{refused-is}
 use Rattle.judge.specs.Checked.{shortCheck}
 use Rattle.semantics.specs.Answered.{refusedChecked}
 use Rattle.pairs.proofs.Answered.{pairs-in}
-use Rattle.judge.proofs.Parsed.{parsed-refusal, parsed-case}
+use Rattle.adding.proofs.Parsed.{parsed-refusal, parsed-case}
 
 -- 10, then 11
 pub short-checked : (counts : Counts) (values levels : ℕ) {v l r : Refusal} → v ≡ refuseUnless (leb (counts .shapes * counts .nodes) values) 10 (counts .shapes * counts .nodes)

@@ -21,7 +21,7 @@ use Rattle.checker.specs.Codes.{proposalFault}
 use Rattle.checker.specs.declared.checking.Code.the-variants.{Older}
 use Rattle.checker.proofs.Answered.{refused-is}
 use Rattle.pairs.proofs.Answered.{pairs-in}
-use Rattle.judge.proofs.Parsed.{parsed-refusal, parsed-case}
+use Rattle.adding.proofs.Parsed.{parsed-refusal, parsed-case}
 
 module _ {s : List ℕ} {p : Parsed} {rows : List ℕ} (values : List ℕ) {short r : Refusal} (h : ParsedAs s p rows)
     (q : short ≡ refuseUnless (leb (p .counts .shapes * p .counts .nodes) (length values)) 10 (p .counts .shapes * p .counts .nodes)) (e : r ≡ orElse (p .refusal) short) where

@@ -21,7 +21,7 @@ use Rattle.strata.specs.Ranks.{RankedAs}
 use Rattle.strata.specs.declared.ranks.Ranks.{Ranks}
 use Rattle.judge.specs.Equations.{CaseRanked}
 use Rattle.semantics.specs.Answered.{rankedBy}
-use Rattle.judge.proofs.Parsed.{parsed-refusal, parsed-case}
+use Rattle.adding.proofs.Parsed.{parsed-refusal, parsed-case}
 
 pub ranked-shapes-there : {counts : Counts} {rows : List ℕ} → CaseIn counts rows → ShapesIn counts rows
 ranked-shapes-there {counts} {rows} h = shapes-of (h .sound) (shapes-in counts rows) (shape-rule-in counts rows) (h .fit .shapes-fit) (h .full)

@@ -28,7 +28,7 @@ use Rattle.solver.specs.Rounding.{SetsSolved}
 use Rattle.judge.specs.Equations.{SolvedAs, NumberedAs}
 use Rattle.judge.specs.Solved.{shortSolve, SolveRoom, CaseSolved}
 use Rattle.pairs.proofs.Answered.{pairs-in}
-use Rattle.judge.proofs.Parsed.{parsed-refusal, parsed-case, targets-count}
+use Rattle.adding.proofs.Parsed.{parsed-refusal, parsed-case, targets-count}
 
 -- ---- The refusal
 

@@ -28,7 +28,7 @@ use Rattle.pairs.specs.Values.{nodeValues, nodeTotals}
 use Rattle.pairs.proofs.Answered.{values-by}
 use Rattle.pairs.proofs.Valued.{node-values-are}
 use Rattle.semantics.specs.Answered.{refusedTotals}
-use Rattle.judge.proofs.Parsed.{parsed-refusal, parsed-case}
+use Rattle.adding.proofs.Parsed.{parsed-refusal, parsed-case}
 use Rattle.judge.proofs.Solves.{values-solved}
 
 module _ {s : List ℕ} {p : Parsed} {rows : List ℕ} (node : ℕ) {unknown r : Refusal} (h : ParsedAs s p rows)

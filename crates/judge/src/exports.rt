@@ -4,10 +4,12 @@ use crate::ranking;
 use crate::solving;
 use crate::supporting;
 use crate::totalling;
+use adding::fewest;
 use cases::answers::Reading;
 use reader::reading::read;
 use semantics::answers::Checked;
 use semantics::answers::CheckedOld;
+use semantics::answers::Fewest;
 use semantics::answers::Ranked;
 use semantics::answers::Solution;
 use semantics::answers::Totals;
@@ -20,6 +22,7 @@ use unfinished::asking;
 use unfinished::beginning;
 ghost use mathlib.Core.Path.{_≡_};
 ghost use Rattle.cases.specs.Reading.{reading};
+ghost use Rattle.semantics.specs.Adding.{fewestAnswer};
 ghost use Rattle.semantics.specs.OldCode.{oldAnswer};
 ghost use Rattle.semantics.specs.Operations.{checkAnswer};
 ghost use Rattle.semantics.specs.Totals.{totalsAnswer};
@@ -115,4 +118,11 @@ pub extern "C" fn judge_ask(unfinished: Unfinished, pair: usize) -> Reply
     ensures { λ r. ⌜ r ≡ asked unfinished pair ⌝ }
 {
     asking::ask(unfinished, pair)
+}
+
+#[no_mangle]
+pub extern "C" fn judge_fewest_edges(case: &[u8], target: usize, candidates: &[u8]) -> Fewest
+    ensures { λ r. ⌜ r ≡ fewestAnswer (now (case .entry)) target (now (candidates .entry)) ⌝ }
+{
+    fewest::fewest_edges(case, target, candidates)
 }

@@ -2,4 +2,5 @@
 // bit s.
 pub mod denying;
 pub mod links;
+pub mod reaching;
 pub mod referring;

@@ -5,6 +5,7 @@ use crate::text::behind;
 use crate::text::decimal;
 use crate::text::fill;
 use crate::text::table_length;
+use adding::fewest::fewest_edges;
 use check::same;
 use judge::ranking::rank;
 use judge::solving::solve;
@@ -173,6 +174,31 @@ fn answer_totals(case: &[u8], node: usize) {
     number(r.undetermined);
 }
 
+// Number, place, selection.
+fn answer_fewest(case: &[u8], target: usize, candidates: &[u8; 8192], n: usize) {
+    let candidates = &candidates[..];
+    if n > candidates.len() {
+        misread();
+        return;
+    }
+    let r = fewest_edges(case, target, &candidates[0..n]);
+    number(r.number);
+    number(r.place);
+    number(r.selection);
+}
+
+// The target's number, and behind it the candidates that are given.
+fn fewest_given(case: &[u8], given: &[u8]) {
+    let mut candidates = [0u8; 8192];
+    let first = behind(given, b' ');
+    let Number::Is(target) = decimal(before(first, b' ')) else {
+        misread();
+        return;
+    };
+    let n = fill(behind(first, b' '), &mut candidates);
+    answer_fewest(case, target, &candidates, n);
+}
+
 // Number, place, reply.
 fn answer_ask(u: Unfinished, pair: usize) {
     let r = ask(u, pair);
@@ -227,6 +253,8 @@ pub fn answer(call: &[u8], title: &[u8], case: &[u8], given: &[u8]) {
         check_given(case, given);
     } else if same(call, b"old") {
         check_old(case, given);
+    } else if same(call, b"fewest") {
+        fewest_given(case, given);
     } else {
         answer_numbered(call, case, given);
     }

@@ -13,6 +13,7 @@ pub mod Certain
 pub mod States
 pub mod Rounds
 pub mod Groups
+pub mod Adding
 pub mod Paths
 pub mod Denial
 pub mod Undenied

@@ -133,7 +133,7 @@ laid-only before (e ∷ l) h n =
     let two : eqb (e .code) 0x02 ≡ true = sym (or-false (eqb (e .code) 0x02)) ∙ both .0 in
     rw two (laid-only (before ++ (e ∷ [])) l (both .1) later))
 
-any-laid : (l : List Edge) (p a b : ℕ) → all l (λ e. eqb (e .code) 0x02) ≡ true
+pub any-laid : (l : List Edge) (p a b : ℕ) → all l (λ e. eqb (e .code) 0x02) ≡ true
     → (any l (edgeIs 0x02 p a b) ≡ any l (λ e. eqb (e .property .0) p && (eqb (e .subject .0) a && eqb (e .object .0) b))) × (any l (edgeIs 0x03 p a b) ≡ false)
 unfolding any all edgeIs
 any-laid [] p a b h = (refl, refl)

@@ -6,6 +6,7 @@ use Rattle.cases.specs.declared.answers.Refusal.{Refusal}
 use Rattle.semantics.specs.declared.answers.Solution.{Solution}
 use Rattle.semantics.specs.declared.answers.Checked.{Checked}
 use Rattle.semantics.specs.declared.answers.Ranked.{Ranked}
+use Rattle.semantics.specs.declared.answers.Fewest.{Fewest}
 use Rattle.semantics.specs.declared.answers.Tally.{Tally}
 use Rattle.semantics.specs.declared.answers.Totals.{Totals}
 use Rattle.semantics.specs.Operations.{tally}
@@ -22,6 +23,9 @@ refusedTotals r = record { number = r .number; place = r .place; valid = 0; unde
 -- ranking's, for a refusal or none and a number of strata
 abbrev pub rankedBy : Refusal → ℕ → Ranked
 rankedBy r strata = record { number = r .number; place = r .place; strata = strata }
+
+abbrev pub fewestBy : Refusal → ℕ → Fewest
+fewestBy r selection = record { number = r .number; place = r .place; selection = selection }
 
 -- what values and verdicts count, and solving's answer for that and a number of rounds
 abbrev pub tallyOf : List ℕ → List ℕ → Tally

@@ -1,6 +1,6 @@
 -- What a case means, in the order of document 01: paths, values, levels and stability, solving, denial, the four operations; then
--- document 02's points: rules inside rules, parked edges, totals by fitting, the old code, unfinished solves, groups that no edge joins. And what
--- inner functions answer.
+-- document 02's points: rules inside rules, parked edges, totals by fitting, the old code, unfinished solves, groups that no edge joins, links to add. And
+-- what inner functions answer.
 pub mod Paths
 pub mod Values
 pub mod Nested
@@ -15,3 +15,4 @@ pub mod Answered
 pub mod Totals
 pub mod OldCode
 pub mod Unfinished
+pub mod Adding

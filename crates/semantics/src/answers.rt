@@ -1,9 +1,9 @@
-// What solving, checking, checking under the old code, ranking and totals by fitting answer: number and place of the refusal, 0 for none,
-// then the counts, 0 on a refusal; the code of the old check is no count.
+// What solving, checking, checking under the old code, ranking, totals by fitting and the search for links to add answer: number and place of the
+// refusal, 0 for none, then the counts or the selection, 0 on a refusal; the code of the old check is no count.
 use cases::answers::Refusal;
 ghost use mathlib.Core.Path.{_≡_};
 ghost use Rattle.semantics.specs.OldCode.{withOldCode};
-ghost use Rattle.semantics.specs.Answered.{refusedSolution, refusedChecked, refusedTotals, rankedBy, solvedWith};
+ghost use Rattle.semantics.specs.Answered.{refusedSolution, refusedChecked, refusedTotals, rankedBy, fewestBy, solvedWith};
 
 // How many pairs are valid and undetermined, and how many targets sure, open and impossible.
 pub struct Tally {
@@ -138,6 +138,26 @@ impl Totals {
             place: refusal.place,
             valid: 0,
             undetermined: 0,
+        }
+    }
+}
+
+#[repr(C)]
+pub struct Fewest {
+    pub number: usize,
+    pub place: usize,
+    pub selection: usize,
+}
+
+impl Fewest {
+    // The answer that goes with a refusal, or with none.
+    pub fn by(refusal: Refusal, selection: usize) -> Fewest
+        ensures { λ r. ⌜ r ≡ fewestBy refusal selection ⌝ }
+    {
+        Fewest {
+            number: refusal.number,
+            place: refusal.place,
+            selection,
         }
     }
 }

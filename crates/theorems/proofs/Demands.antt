@@ -169,12 +169,12 @@ module _ (c : Case) (v v′ : List ℕ) (agree : (k : ℕ) → k < pairCount c �
 pub nowhere : Target
 nowhere = record { shape = record { 0 = 0 }; node = record { 0 = 0 } }
 
-target-below : (c : Case) → Sound c → (i : ℕ) → i < length (c .targets) → pairOfTarget c i < pairCount c
+pub target-below : (c : Case) → Sound c → (i : ℕ) → i < length (c .targets) → pairOfTarget c i < pairCount c
 target-below c sound i h =
     rw (getD-map (λ t. pairOf c (t .shape .0) (t .node .0)) (c .targets) i nowhere 0 h)
     (pair-below c _ _ (ltb-true _ _ (all-in (c .targets) _ (sound .targets-named) i nowhere h)) (ltb-true _ _ (all-in (c .targets) _ (sound .targets-known) i nowhere h)))
 
-verdict-at : (c : Case) (i : ℕ) → i < length (c .targets) → getD (verdicts c) i 0 ≡ getD (solvedValues c) (pairOfTarget c i) 0
+pub verdict-at : (c : Case) (i : ℕ) → i < length (c .targets) → getD (verdicts c) i 0 ≡ getD (solvedValues c) (pairOfTarget c i) 0
 unfolding verdicts targetValues
 verdict-at c i h =
     getD-map _ (c .targets) i nowhere 0 h

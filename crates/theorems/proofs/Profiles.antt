@@ -10,6 +10,7 @@ use Rattle.cases.specs.Case.{Case}
 use Rattle.cases.specs.Reading.{headed, Outcome, outcome, reading}
 use Rattle.encoding.specs.Encoding.{later}
 use Rattle.encoding.proofs.Alike.{without-profile}
+use Rattle.semantics.specs.Adding.{fewestRefusal, fewestAnswer}
 use Rattle.semantics.specs.OldCode.{oldRefusal, oldAnswer}
 use Rattle.semantics.specs.Operations.{caseOf, solveRefusal, solveAnswer, solveValues, solveLevels, solveVerdicts, checkRefusal, checkAnswer, rankRefusal, rankAnswer, rankStrata}
 use Rattle.semantics.specs.Totals.{totalsRefusal, totalsAnswer}
@@ -29,6 +30,10 @@ case-alike s t e = ap (λ (o : Outcome). o .case) e
 reading-alike : (s t : List ℕ) → outcome s ≡ outcome t → reading s ≡ reading t
 unfolding reading
 reading-alike s t e = rw e
+
+fewest-alike : (s t : List ℕ) → outcome s ≡ outcome t → (target : ℕ) (list : List ℕ) → fewestAnswer s target list ≡ fewestAnswer t target list
+unfolding fewestRefusal fewestAnswer
+fewest-alike s t e target list = rw (e, case-alike s t e)
 
 -- "Beginning answers and refuses as reading does"
 pub begins-as-read : (s : List ℕ) → beginning (begun s) ≡ reading s
@@ -84,6 +89,7 @@ read-alike s t e = record {
   rank = λ r. rw (e, case-alike s t e);
   strata = λ r. rw (e, case-alike s t e);
   totals = λ a. rw (e, case-alike s t e);
+  fewest-edges = fewest-alike s t e;
   begin = begins-as-read s ∙ reading-alike s t e ∙ sym (begins-as-read t);
   advance = advances-alike s t e;
   ask = replies-alike s t e;

@@ -5,3 +5,4 @@ pub mod Unfinished
 pub mod Profiles
 pub mod Parking
 pub mod Groups
+pub mod Adding

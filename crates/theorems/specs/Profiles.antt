@@ -4,6 +4,7 @@ use mathlib.Core.Path.{_≡_}
 use mathlib.Core.List.{List}
 use Rattle.cases.specs.Reading.{reading}
 use Rattle.cases.specs.declared.answers.Reading.{Reading}
+use Rattle.semantics.specs.Adding.{fewestAnswer}
 use Rattle.semantics.specs.OldCode.{oldAnswer}
 use Rattle.semantics.specs.Operations.{solveAnswer, solveValues, solveLevels, solveVerdicts, checkAnswer, rankAnswer, rankStrata}
 use Rattle.semantics.specs.Totals.{totalsAnswer}
@@ -36,6 +37,7 @@ pub record AnsweredAlike (s t : List ℕ) : Type 0 where
   pub rank : (r : List ℕ) → rankAnswer s r ≡ rankAnswer t r
   pub strata : (r : List ℕ) → rankStrata s r ≡ rankStrata t r
   pub totals : (a : ℕ) → totalsAnswer s a ≡ totalsAnswer t a
+  pub fewest-edges : (target : ℕ) (list : List ℕ) → fewestAnswer s target list ≡ fewestAnswer t target list
   -- unfinished solves: what beginning answers; and after any number of advances whether the next one reaches the end, and each reply
   pub begin : beginning (begun s) ≡ beginning (begun t)
   pub advance : (i : ℕ) → advanceAnswer (solving s i) .over ≡ advanceAnswer (solving t i) .over
