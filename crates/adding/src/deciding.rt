@@ -11,7 +11,7 @@ use settling::deciding::settle_pair;
 
 // What is the same for every selection: the counts of the case without it, the target's shape and node, and the paths that no candidate touches,
 // whose sets of nodes stay as they are.
-#[derive(Drop)]
+#[derive(Clone, Copy)]
 pub struct Asked {
     pub counts: Counts,
     pub pair: Target,

@@ -6,21 +6,21 @@ use crate::command::{Command, Row};
 use crate::counts::Counts;
 
 // What the input begins with: the profile and how many bytes say it, or the number of a refusal.
-#[derive(Drop)]
+#[derive(Clone, Copy)]
 pub enum Heading {
     Is(usize, usize),
     Refused(usize),
 }
 
 // What a command takes of the input: its group, in the order in which the groups stand, and its bytes.
-#[derive(Drop)]
+#[derive(Clone, Copy)]
 pub struct Taken {
     pub group: usize,
     pub width: usize,
 }
 
 // What reading finds where a command should start: a command, its row and what it takes, or the number of a refusal.
-#[derive(Drop)]
+#[derive(Clone, Copy)]
 pub enum Step {
     Is(Command, Row, Taken),
     Refused(usize),
@@ -37,7 +37,7 @@ pub fn number_of(step: Step) -> usize
 }
 
 // A refusal's number, 0 for none, and its place.
-#[derive(Drop)]
+#[derive(Clone, Copy)]
 pub struct Refusal {
     pub number: usize,
     pub place: usize,
@@ -53,7 +53,7 @@ pub fn no_refusal() -> Refusal
 }
 
 // What reading comes to, beside the table of rows: the counts are 0 on a refusal.
-#[derive(Drop)]
+#[derive(Clone, Copy)]
 pub struct Parsed {
     pub refusal: Refusal,
     pub counts: Counts,
@@ -61,7 +61,7 @@ pub struct Parsed {
 
 // What `read` answers: number and place of the refusal, 0 for none, and the counts, 0 on a refusal.
 #[repr(C)]
-#[derive(Drop)]
+#[derive(Clone, Copy)]
 pub struct Reading {
     pub number: usize,
     pub place: usize,

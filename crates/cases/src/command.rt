@@ -10,7 +10,7 @@ pub const LAID: usize = 0x02;
 pub const PARKED: usize = 0x03;
 
 // An edge command, with its byte.
-#[derive(Drop)]
+#[derive(Clone, Copy)]
 pub struct Edge {
     pub code: usize,
     pub property: Property,
@@ -18,7 +18,7 @@ pub struct Edge {
     pub object: Node,
 }
 
-#[derive(Drop)]
+#[derive(Clone, Copy)]
 pub enum PathRule {
     Forward(Property),
     Backward(Property),
@@ -27,7 +27,7 @@ pub enum PathRule {
     Star(Path),
 }
 
-#[derive(Drop)]
+#[derive(Clone, Copy)]
 pub enum ShapeRule {
     Top,
     Node(Node),
@@ -39,13 +39,13 @@ pub enum ShapeRule {
     AtLeast(usize, Path, Shape),
 }
 
-#[derive(Drop)]
+#[derive(Clone, Copy)]
 pub struct Target {
     pub shape: Shape,
     pub node: Node,
 }
 
-#[derive(Drop)]
+#[derive(Clone, Copy)]
 pub enum Command {
     Nodes(usize),
     Edge(Edge),
@@ -56,7 +56,7 @@ pub enum Command {
 }
 
 // A command as four numbers: its byte and its operands, 0 for those that it lacks.
-#[derive(Drop)]
+#[derive(Clone, Copy)]
 pub struct Row(pub u16, pub u16, pub u16, pub u16);
 
 pub fn edge_of(row: Row) -> Edge

@@ -3,7 +3,7 @@ ghost use Rattle.std.specs.Prelude.{◌≡◌};
 ghost use Rattle.cases.specs.Counts.{is_profile, node_limit, shape_limit, words_of, size_of};
 
 // How many nodes, edges, paths, shapes and targets a case has.
-#[derive(Drop)]
+#[derive(Clone, Copy)]
 pub struct Counts {
     pub nodes: usize,
     pub edges: usize,
@@ -46,7 +46,7 @@ pub fn shape_limit(profile: usize) -> usize
 }
 
 // How many nodes there are, and how many words of 64 bits a set of them takes.
-#[derive(Drop)]
+#[derive(Clone, Copy)]
 pub struct Size {
     pub nodes: usize,
     pub words: usize,

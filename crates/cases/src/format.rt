@@ -7,7 +7,7 @@ use crate::answers::Taken;
 use crate::command::Row;
 
 // A command byte's group, 7 for an unknown byte, and the widths of its operands in bytes.
-#[derive(Drop)]
+#[derive(Clone, Copy)]
 pub struct Format(pub usize, pub u8, pub u8, pub u8);
 
 pub fn format_of(code: u8) -> Format
@@ -88,7 +88,7 @@ pub fn number_at(part: &[u8], at: usize, width: u8) -> u16
 }
 
 // What the operand reader finds: the whole command as a row, or an input that ends too early.
-#[derive(Drop)]
+#[derive(Clone, Copy)]
 pub enum Operands {
     Complete(Row),
     Cut,

@@ -3,7 +3,7 @@ use crate::command::Row;
 
 // What stands where a part opens: the number of a refusal; or a row, of a named shape, of a rule with no, one or two inner parts, whose shape
 // operands are 0, or of the at least behind an at most. The bytes that the head takes come with it.
-#[derive(Drop)]
+#[derive(Clone, Copy)]
 pub enum Head {
     Refused(usize),
     Name(Row, usize),

@@ -1,5 +1,7 @@
 // A case: the numbers and commands that it is made of, its format, its counts, the table of rows that holds it, and what reading answers.
 // Definitions of document 01's section "A case, command by command" and of reading are in specs/; the crate reader reads by them.
+#![tactic(auto)]
+
 pub mod answers;
 pub mod command;
 pub mod counts;

@@ -1,12 +1,12 @@
 // The numbers of nodes, properties, shapes and paths. They are numbered from separate sets, and one never stands for another.
-#[derive(Drop)]
+#[derive(Clone, Copy)]
 pub struct Node(pub usize);
 
-#[derive(Drop)]
+#[derive(Clone, Copy)]
 pub struct Property(pub usize);
 
-#[derive(Drop)]
+#[derive(Clone, Copy)]
 pub struct Shape(pub usize);
 
-#[derive(Drop)]
+#[derive(Clone, Copy)]
 pub struct Path(pub usize);

@@ -6,7 +6,7 @@ ghost use Rattle.cases.specs.References.{listed_paths};
 use crate::command::{PathRule, ShapeRule};
 use crate::numbers::Path;
 
-#[derive(Drop)]
+#[derive(Clone, Copy)]
 pub enum Paths {
     No,
     One(Path),

@@ -8,7 +8,7 @@ use crate::counts::{Counts, Size, size_of};
 use crate::numbers::Shape;
 use crate::rows::shape_in;
 
-#[derive(Drop)]
+#[derive(Clone, Copy)]
 pub struct Ruled {
     pub rule: ShapeRule,
     pub shape: Shape,

@@ -6,7 +6,7 @@ ghost use Rattle.cases.specs.References.{listed};
 use crate::command::ShapeRule;
 use crate::numbers::Shape;
 
-#[derive(Drop)]
+#[derive(Clone, Copy)]
 pub enum References {
     No,
     One(Shape),

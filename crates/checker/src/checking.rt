@@ -67,7 +67,7 @@ fn check_pairs(counts: Counts, rows: &[u16], sets: &[u64], values: &[u8], levels
 }
 
 // The code that a proposal is checked under. The older one takes a supported assignment without levels, and reads none.
-#[derive(Drop)]
+#[derive(Clone, Copy)]
 pub enum Code {
     Older,
     Newer,

@@ -1,5 +1,7 @@
 // The desk program: reads a case from standard input, solves it, and prints the rounds, each shape's values by node, and the verdicts;
 // or `too long`, or the refusal.
+#![tactic(auto)]
+
 use judge::solving::solve;
 use libc::{STDIN_FILENO, STDOUT_FILENO};
 use listing::{print_listing, print_refusal};

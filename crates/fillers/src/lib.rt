@@ -2,6 +2,8 @@
 // for each path that a shape names. The crate lookups says which paths that takes, and alone reads edges, once, before any path is worked
 // out, into blocks that `clearing` emptied; `paths` works out the others from that, as blocks of rows, which the crate relations joins;
 // `table` does these in turn. `converse` makes the same table by the converse of the paths.
+#![tactic(auto)]
+
 pub mod clearing;
 pub mod converse;
 pub mod paths;

@@ -15,7 +15,7 @@ use fitness::parking::edge_there;
 use parts::readers::{Cursor, Opened, read_part};
 
 // What has been read: the profile, the last command's group, the counts of what the rows hold, and how many fresh rows and notes there are.
-#[derive(Drop)]
+#[derive(Clone, Copy)]
 pub struct Reached {
     pub profile: usize,
     pub last: usize,
@@ -38,7 +38,7 @@ pub fn nothing_reached(profile: usize) -> Reached
 }
 
 // A step, and how many fresh rows and notes there are with it.
-#[derive(Drop)]
+#[derive(Clone, Copy)]
 pub struct Finding {
     pub step: Step,
     pub fresh: usize,

@@ -40,7 +40,7 @@ pub fn is_low_member(
 }
 
 // A shape whose levels are compared with a bound, and how many of their digits are worked out, 0 for none.
-#[derive(Drop)]
+#[derive(Clone, Copy)]
 pub struct Lower {
     pub shape: Shape,
     pub size: Size,

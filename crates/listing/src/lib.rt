@@ -1,4 +1,6 @@
 // Prints the desk program's answers: the listing of a solved case, and the line of a refusal. Each line ends in the byte 0A.
+#![tactic(auto)]
+
 ghost use Rattle.std.specs.Prelude.{◌+◌, ◌<◌, ◌≤◌, length};
 
 use libc::STDOUT_FILENO;

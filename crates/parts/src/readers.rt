@@ -15,7 +15,7 @@ use cases::rows::put_row;
 
 // Where the readers stand: the offset of their command in the case, their own offset in the command, how many fresh rows there are, and how
 // many notes.
-#[derive(Drop)]
+#[derive(Clone, Copy)]
 pub struct Cursor {
     pub place: usize,
     pub at: usize,
@@ -24,7 +24,7 @@ pub struct Cursor {
 }
 
 // What a part comes to: the number of a refusal, a named shape, or a rule as a row; and where it ends.
-#[derive(Drop)]
+#[derive(Clone, Copy)]
 pub enum Opened {
     Refused(usize),
     Name(u16, Cursor),
@@ -32,7 +32,7 @@ pub enum Opened {
 }
 
 // What an inner part comes to: the number of a refusal, or the reference that stands for it; and where it ends.
-#[derive(Drop)]
+#[derive(Clone, Copy)]
 pub enum Inner {
     Refused(usize),
     Is(u16, Cursor),

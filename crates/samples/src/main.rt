@@ -1,4 +1,6 @@
 // Runs the calls that its input names, a line each, and prints what they answer: the samples of document 01, each limit and each refusal.
+#![tactic(auto)]
+
 mod calls;
 mod text;
 

@@ -9,7 +9,7 @@ const ROOM: usize = 8192;
 pub const NONE: usize = 8193;
 
 // A number, or that the text is none.
-#[derive(Drop)]
+#[derive(Clone, Copy)]
 pub enum Number {
     Is(usize),
     Unread,

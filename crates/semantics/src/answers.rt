@@ -7,7 +7,7 @@ ghost use Rattle.semantics.specs.Answered.{refused_solution, refused_checked, re
 use cases::answers::Refusal;
 
 // How many pairs are valid and undetermined, and how many targets sure, open and impossible.
-#[derive(Drop)]
+#[derive(Clone, Copy)]
 pub struct Tally {
     pub valid: usize,
     pub undetermined: usize,
@@ -17,7 +17,7 @@ pub struct Tally {
 }
 
 #[repr(C)]
-#[derive(Drop)]
+#[derive(Clone, Copy)]
 pub struct Solution {
     pub number: usize,
     pub place: usize,
@@ -62,7 +62,7 @@ impl Solution {
 }
 
 #[repr(C)]
-#[derive(Drop)]
+#[derive(Clone, Copy)]
 pub struct Checked {
     pub number: usize,
     pub place: usize,
@@ -97,7 +97,7 @@ impl Checked {
 }
 
 #[repr(C)]
-#[derive(Drop)]
+#[derive(Clone, Copy)]
 pub struct CheckedOld {
     pub number: usize,
     pub place: usize,
@@ -107,7 +107,7 @@ pub struct CheckedOld {
 }
 
 #[repr(C)]
-#[derive(Drop)]
+#[derive(Clone, Copy)]
 pub struct Ranked {
     pub number: usize,
     pub place: usize,
@@ -128,7 +128,7 @@ impl Ranked {
 }
 
 #[repr(C)]
-#[derive(Drop)]
+#[derive(Clone, Copy)]
 pub struct Totals {
     pub number: usize,
     pub place: usize,
@@ -150,7 +150,7 @@ impl Totals {
 }
 
 #[repr(C)]
-#[derive(Drop)]
+#[derive(Clone, Copy)]
 pub struct Fewest {
     pub number: usize,
     pub place: usize,

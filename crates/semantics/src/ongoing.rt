@@ -6,7 +6,7 @@ use crate::value::{Said, Value};
 
 // The values: 2 in the last T, 0 outside the last P worked out, else 1. `over` is 0 until the end is reached.
 #[repr(C)]
-#[derive(Drop)]
+#[derive(Clone, Copy)]
 pub struct Unfinished {
     pub bytes: [u8; 8192],
     pub length: usize,
@@ -16,7 +16,7 @@ pub struct Unfinished {
 }
 
 #[repr(C)]
-#[derive(Drop)]
+#[derive(Clone, Copy)]
 pub struct Begun {
     pub number: usize,
     pub place: usize,
@@ -29,14 +29,14 @@ pub struct Begun {
 }
 
 #[repr(C)]
-#[derive(Drop)]
+#[derive(Clone, Copy)]
 pub struct Advanced {
     pub over: usize,
     pub unfinished: Unfinished,
 }
 
 #[repr(C)]
-#[derive(Drop)]
+#[derive(Clone, Copy)]
 pub struct Reply {
     pub number: usize,
     pub place: usize,
@@ -44,7 +44,7 @@ pub struct Reply {
 }
 
 // What is certain of a pair while a solve is unfinished, and when it is over.
-#[derive(Drop)]
+#[derive(Clone, Copy)]
 pub enum Certainty {
     Impossible,
     Open,

@@ -2,11 +2,11 @@
 ghost use Rattle.std.specs.Prelude.{◌≡◌, ◌-◌, min, max};
 ghost use Rattle.semantics.specs.Values.{byte_says, said_number};
 
-#[derive(Drop)]
+#[derive(Clone, Copy)]
 pub struct Value(pub u8);
 
 // What a byte says: a value, or none where it is above 2.
-#[derive(Drop)]
+#[derive(Clone, Copy)]
 pub enum Said {
     Is(Value),
     Above,
