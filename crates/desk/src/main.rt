@@ -6,7 +6,7 @@ use judge::solving::solve;
 use listing::{print_listing, print_refusal};
 use reader::reading::read;
 use std::io;
-use std::io::Read;
+use std::io::Read as _;
 
 // The longest case that the desk takes.
 const MOST: usize = 8192;

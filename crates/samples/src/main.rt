@@ -6,7 +6,7 @@ mod text;
 
 use calls::{answer, misread, print};
 use std::io;
-use std::io::Read;
+use std::io::Read as _;
 use text::{NONE, before, behind, fill};
 
 // The length of the case: a line that reads sets it anew.
