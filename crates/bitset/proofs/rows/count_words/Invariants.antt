@@ -1,0 +1,10 @@
+-- `bitset::rows::count_words` meets its contract. The invariant: n counts the common members in the first i words. Assumes nothing.
+use Prim.Native.Nat.{◌-◌}
+use Rattle.bitset.proofs.Members.{CountedTo}
+use Rattle.bitset.proofs.rows.count_words.Given as goal
+
+abbrev pub invariant-loop-i : goal.invariant-loop-i
+invariant-loop-i l = CountedTo l.t l.r l.u l.s l.w l.i l.n
+
+abbrev pub decreases-loop-i : goal.decreases-loop-i
+decreases-loop-i l = l.w - l.i

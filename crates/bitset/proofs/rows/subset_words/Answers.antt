@@ -1,0 +1,25 @@
+use Prim.Native.Nat.{◌+◌, ◌*◌}
+use mathlib.Core.Path.{sym}
+use Rattle.bitset.proofs.Members.{passed_none, passed_more, passed_done, subset_of, subset_fails}
+use Rattle.bitset.proofs.rows.subset_words.Goals as goal
+
+pub loop-i-init : goal.loop-i-init
+loop-i-init c = passed_none
+
+pub returns-then-word-u : goal.returns-then-word-u
+returns-then-word-u c =
+    let a = c.args in
+    sym
+    (subset_fails a.t.now a.r a.u.now a.s a.w
+    c.loop-i.i
+    c.loop-i-test.true
+    (c.type_inv.t (a.r * a.w + c.loop-i.i)).fits
+    c.if-word-u.true)
+
+pub loop-i-preserved : goal.loop-i-preserved
+loop-i-preserved c = passed_more c.loop-i-test.true c.if-word-u.false c.loop-i.invariant
+
+pub returns : goal.returns
+returns c =
+    let a = c.args in
+    sym (subset_of a.t.now a.r a.u.now a.s a.w (passed_done c.loop-i-test.false c.loop-i.invariant))

@@ -1,0 +1,10 @@
+-- `justifying::digits::lower_next` meets its contract. Assumes nothing.
+use Rattle.std.proofs.Common.{rules}
+use Rattle.justifying.proofs.InDigits.{lower_one, lower_zero}
+use Rattle.justifying.proofs.digits.lower_next.Goals as goal
+
+pub returns-then-one : goal.returns-then-one
+returns-then-one c = search lower_one
+
+pub returns-else-one : goal.returns-else-one
+returns-else-one c = search lower_zero

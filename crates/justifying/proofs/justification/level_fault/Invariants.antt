@@ -1,0 +1,12 @@
+-- `justifying::justification::level_fault` meets its contract. The invariant: the pairs of the shapes below s are justified, if they are supported. Assumes nothing.
+use Prim.Native.Nat.{◌-◌}
+use native.Mathlib.Omega.{arith}
+use Rattle.support.proofs.RulesThere.{shape_row_there}
+use Rattle.justifying.proofs.Justified.{JustifiedRows, justified_rows_none, levels_read, justified_rows_more, justified_rows_first, justified_rows_all}
+use Rattle.justifying.proofs.justification.level_fault.Given as goal
+
+abbrev pub invariant-loop-s : goal.invariant-loop-s
+invariant-loop-s l = JustifiedRows l.counts l.rows l.sets l.valid l.possible l.levels l.pairs l.s
+
+abbrev pub decreases-loop-s : goal.decreases-loop-s
+decreases-loop-s l = l.counts.shapes - l.s

@@ -1,0 +1,13 @@
+-- `justifying::low_levels::count_lower` meets its contract. The invariant: n counts the nodes of the first i words. Assumes nothing.
+use Prim.Native.Nat.{◌-◌}
+use native.Mathlib.Omega.{arith}
+use Rattle.justifying.specs.LevelRows.{is_low}
+use Rattle.justifying.proofs.Lowered.{PassingTo, asked_common, passing_none, passing_more, passing_ones, passing_fits, passing_done}
+use Rattle.justifying.proofs.low_levels.count_lower.Given as goal
+
+abbrev pub invariant-loop-i : goal.invariant-loop-i
+invariant-loop-i l =
+    PassingTo (is_low l.levels l.low.bound l.low.size l.low.shape.0) l.sets l.row l.set l.low.shape.0 l.low.size.words l.i l.n
+
+abbrev pub decreases-loop-i : goal.decreases-loop-i
+decreases-loop-i l = l.low.size.words - l.i

@@ -1,0 +1,6 @@
+-- `reader::reading::refused` meets its contract. Assumes nothing.
+use Rattle.std.proofs.Common.{rules}
+use Rattle.reader.proofs.reading.refused.Goals as goal
+
+pub returns : goal.returns
+returns c = rw c.no_counts.ensures

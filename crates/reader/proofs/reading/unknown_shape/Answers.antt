@@ -1,0 +1,21 @@
+use Rattle.std.proofs.Common.{rules}
+use lib.ListN.{drop}
+use mathlib.Core.Path.{◌≡◌, refl, sym, ◌∙◌}
+use native.Mathlib.Omega.{arith}
+use Prim.Native.Nat.{◌≤◌, ◌-◌}
+use Rattle.reader.proofs.Unknown.{unknown_here, unknown_later, unknown_none}
+use Rattle.parts.specs.Tables.{named_in}
+use Rattle.cases.specs.Reading.{unknown_shape}
+use Rattle.reader.proofs.reading.unknown_shape.Goals as goal
+
+pub loop-i-init : goal.loop-i-init
+loop-i-init c = (omega arith, refl)
+
+pub returns-then-shapes-named : goal.returns-then-shapes-named
+returns-then-shapes-named c = sym (c.loop-i.invariant.1 ∙ unknown_here _ _ _ _ c.loop-i-test.true c.if-shapes-named.true)
+
+pub loop-i-preserved : goal.loop-i-preserved
+loop-i-preserved c = (omega arith, c.loop-i.invariant.1 ∙ unknown_later _ _ _ _ c.loop-i-test.true c.if-shapes-named.false)
+
+pub returns : goal.returns
+returns c = c.no_refusal.ensures ∙ sym (c.loop-i.invariant.1 ∙ unknown_none _ _ _ _ c.loop-i-test.false)

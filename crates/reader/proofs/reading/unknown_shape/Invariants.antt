@@ -1,0 +1,16 @@
+-- `reader::reading::unknown_shape` meets its contract. The loop's invariant: all operands and those from `i` on have the same first unknown one. Assumes nothing.
+use lib.ListN.{drop}
+use mathlib.Core.Path.{◌≡◌, refl, sym, ◌∙◌}
+use native.Mathlib.Omega.{arith}
+use Prim.Native.Nat.{◌≤◌, ◌-◌}
+use Rattle.reader.proofs.Unknown.{unknown_here, unknown_later, unknown_none}
+use Rattle.parts.specs.Tables.{named_in}
+use Rattle.cases.specs.Reading.{unknown_shape}
+use Rattle.reader.proofs.reading.unknown_shape.Given as goal
+
+abbrev pub invariant-loop-i : goal.invariant-loop-i
+invariant-loop-i l =
+    (l.i ≤ l.count) × (unknown_shape l.shapes (named_in l.named l.count) ≡ unknown_shape l.shapes (drop l.i (named_in l.named l.count)))
+
+abbrev pub decreases-loop-i : goal.decreases-loop-i
+decreases-loop-i l = l.count - l.i
