@@ -1,5 +1,4 @@
 -- `adding::candidates::candidate_row` meets its contract: the operands stand one after another. Assumes nothing.
-use Rattle.std.proofs.Common.{rules}
 use Rattle.cases.specs.Format.{number_at}
 use Rattle.semantics.specs.Adding.{candidate_at}
 use Rattle.adding.proofs.candidates.candidate_row.Goals as goal

@@ -1,9 +1,5 @@
-use Rattle.std.proofs.Common.{rules}
-use Prim.Native.Nat.{◌-◌}
-use native.Mathlib.Omega.{arith}
 use mathlib.Core.Path.{◌∙◌}
-use Rattle.semantics.proofs.Refusing.{Well, well_none, well_more, well_first, well_all}
-use Rattle.adding.specs.Candidates.{unknown_at}
+use Rattle.semantics.proofs.Refusing.{well_none, well_more, well_first, well_all}
 use Rattle.adding.proofs.candidates.first_unknown.Goals as goal
 
 pub loop-i-init : goal.loop-i-init

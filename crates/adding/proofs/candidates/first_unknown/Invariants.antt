@@ -1,8 +1,6 @@
 -- `adding::candidates::first_unknown` meets its contract. The invariant: the candidates below i are known. Assumes nothing.
 use Prim.Native.Nat.{◌-◌}
-use native.Mathlib.Omega.{arith}
-use mathlib.Core.Path.{◌∙◌}
-use Rattle.semantics.proofs.Refusing.{Well, well_none, well_more, well_first, well_all}
+use Rattle.semantics.proofs.Refusing.{Well}
 use Rattle.adding.specs.Candidates.{unknown_at}
 use Rattle.adding.proofs.candidates.first_unknown.Given as goal
 

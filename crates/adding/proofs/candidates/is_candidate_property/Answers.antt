@@ -1,7 +1,4 @@
-use Rattle.std.proofs.Common.{rules}
-use Prim.Native.Nat.{◌-◌}
-use native.Mathlib.Omega.{arith}
-use Rattle.adding.proofs.Listed.{NoneOf, none_of_first, none_of_more, property_found, property_nowhere}
+use Rattle.adding.proofs.Listed.{none_of_first, none_of_more, property_found, property_nowhere}
 use Rattle.adding.proofs.candidates.is_candidate_property.Goals as goal
 
 pub loop-i-init : goal.loop-i-init

@@ -1,9 +1,5 @@
 use Rattle.std.proofs.Common.{rules}
-use Prim.Native.Nat.{◌-◌}
-use native.Mathlib.Omega.{arith}
-use mathlib.Core.Path.{◌≡◌, refl}
-use lib.ListN.{length}
-use Rattle.adding.specs.Choosing.{ChosenTo}
+use mathlib.Core.Path.{refl}
 use Rattle.adding.proofs.Chosen.{chosen_none, chosen_done}
 use Rattle.adding.proofs.choosing.choose.Goals as goal
 

@@ -1,10 +1,8 @@
 -- `adding::choosing::choose` meets its contract. The invariant: the chosen ones below i are there. Assumes nothing.
 use Prim.Native.Nat.{◌-◌}
-use native.Mathlib.Omega.{arith}
-use mathlib.Core.Path.{◌≡◌, refl}
+use mathlib.Core.Path.{◌≡◌}
 use lib.ListN.{length}
 use Rattle.adding.specs.Choosing.{ChosenTo}
-use Rattle.adding.proofs.Chosen.{chosen_none, chosen_done}
 use Rattle.adding.proofs.choosing.choose.Given as goal
 
 abbrev pub invariant-loop-i : goal.invariant-loop-i

@@ -1,6 +1,4 @@
 -- `adding::choosing::choose_if` meets its contract: the candidate's row is put behind the others, or nothing is. Assumes nothing.
-use Rattle.std.proofs.Common.{rules}
-use native.Mathlib.Omega.{arith}
 use Rattle.adding.proofs.Chosen.{chosen_skipped, chosen_taken, chosen_room}
 use Rattle.adding.proofs.choosing.choose_if.Goals as goal
 

@@ -1,7 +1,4 @@
-use Rattle.std.proofs.Common.{rules}
-use Prim.Native.Nat.{◌-◌}
-use native.Mathlib.Omega.{arith}
-use Rattle.adding.proofs.Chosen.{CopiedTo, behind_none, behind_more, behind_done}
+use Rattle.adding.proofs.Chosen.{behind_none, behind_more, behind_done}
 use Rattle.adding.proofs.choosing.copy_behind.Goals as goal
 
 pub loop-i-init : goal.loop-i-init

@@ -1,7 +1,4 @@
-use Rattle.std.proofs.Common.{rules}
-use Prim.Native.Nat.{◌-◌}
-use native.Mathlib.Omega.{arith}
-use Rattle.adding.proofs.Chosen.{LayingChosen, behind_edges_none, behind_edges_more, behind_edges_room, behind_edges_done}
+use Rattle.adding.proofs.Chosen.{behind_edges_none, behind_edges_more, behind_edges_room, behind_edges_done}
 use Rattle.adding.proofs.choosing.lay_chosen.Goals as goal
 
 pub loop-j-init : goal.loop-j-init

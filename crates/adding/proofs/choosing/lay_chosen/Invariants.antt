@@ -1,7 +1,6 @@
 -- `adding::choosing::lay_chosen` meets its contract. The invariant: the first j of them are there. Assumes nothing.
 use Prim.Native.Nat.{◌-◌}
-use native.Mathlib.Omega.{arith}
-use Rattle.adding.proofs.Chosen.{LayingChosen, behind_edges_none, behind_edges_more, behind_edges_room, behind_edges_done}
+use Rattle.adding.proofs.Chosen.{LayingChosen}
 use Rattle.adding.proofs.choosing.lay_chosen.Given as goal
 
 abbrev pub invariant-loop-j : goal.invariant-loop-j

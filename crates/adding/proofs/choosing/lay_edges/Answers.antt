@@ -1,7 +1,4 @@
-use Rattle.std.proofs.Common.{rules}
-use Prim.Native.Nat.{◌-◌}
-use native.Mathlib.Omega.{arith}
-use Rattle.adding.proofs.Chosen.{LayingEdges, edges_none, edges_more, edges_room, edges_done}
+use Rattle.adding.proofs.Chosen.{edges_none, edges_more, edges_room, edges_done}
 use Rattle.adding.proofs.choosing.lay_edges.Goals as goal
 
 pub loop-i-init : goal.loop-i-init

@@ -1,7 +1,6 @@
 -- `adding::choosing::lay_edges` meets its contract. The invariant: the edges below i are there. Assumes nothing.
 use Prim.Native.Nat.{◌-◌}
-use native.Mathlib.Omega.{arith}
-use Rattle.adding.proofs.Chosen.{LayingEdges, edges_none, edges_more, edges_room, edges_done}
+use Rattle.adding.proofs.Chosen.{LayingEdges}
 use Rattle.adding.proofs.choosing.lay_edges.Given as goal
 
 abbrev pub invariant-loop-i : goal.invariant-loop-i

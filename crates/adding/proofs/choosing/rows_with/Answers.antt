@@ -1,5 +1,4 @@
 -- `adding::choosing::rows_with` meets its contract: the chosen ones, the edges, and the chosen ones behind them. Assumes nothing.
-use Rattle.std.proofs.Common.{rules}
 use Rattle.adding.proofs.Chosen.{chosen_fit, chosen_few, rows_hold}
 use Rattle.adding.proofs.choosing.rows_with.Goals as goal
 

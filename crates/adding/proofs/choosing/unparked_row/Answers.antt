@@ -1,5 +1,4 @@
 -- `adding::choosing::unparked_row` meets its contract: an 02 stays, another becomes one if it is chosen. Assumes nothing.
-use Rattle.std.proofs.Common.{rules}
 use Rattle.adding.proofs.Chosen.{laid_stays, parked_laid, unchosen_stays}
 use Rattle.adding.proofs.choosing.unparked_row.Goals as goal
 

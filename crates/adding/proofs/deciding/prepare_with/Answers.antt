@@ -1,5 +1,4 @@
 -- `adding::deciding::prepare_with` meets its contract: the rows hold the case with the chosen edges, and what is laid is for it. Assumes nothing.
-use Rattle.std.proofs.Common.{rules}
 use Rattle.adding.proofs.Verdicts.{case_asked, room_asked, held_asked, laid_asked, prepares_asked}
 use Rattle.adding.proofs.deciding.prepare_with.Goals as goal
 

@@ -1,6 +1,4 @@
 -- `adding::fewest::answer_by` meets its contract: a key of the list, or none. Assumes nothing.
-use Rattle.std.proofs.Common.{rules}
-use native.Mathlib.Omega.{arith}
 use Rattle.adding.proofs.Answers.{keys_fit, key_found, key_missing}
 use Rattle.adding.proofs.fewest.answer_by.Goals as goal
 

@@ -1,5 +1,4 @@
 -- `adding::fewest::fewest_edges` meets its contract. Assumes nothing.
-use Rattle.std.proofs.Common.{rules}
 use Rattle.adding.proofs.Answers.{fewest_refused, list_few, target_low, searchable, fewest_found}
 use Rattle.adding.proofs.fewest.fewest_edges.Goals as goal
 

@@ -1,5 +1,4 @@
 -- `adding::fewest::sliced_key` meets its contract: the slice has the same first key. Assumes nothing.
-use Rattle.std.proofs.Common.{rules}
 use Rattle.adding.proofs.Slices.{case_shapes}
 use Rattle.adding.proofs.Slices.{searchable_slice, sliced_key}
 use Rattle.adding.proofs.fewest.sliced_key.Goals as goal

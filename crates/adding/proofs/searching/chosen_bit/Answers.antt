@@ -1,5 +1,4 @@
 -- `adding::searching::chosen_bit` meets its contract: what is left of half is 1 or 0. Assumes nothing.
-use Rattle.std.proofs.Common.{rules}
 use Rattle.adding.proofs.Keyed.{bit_chosen}
 use Rattle.adding.proofs.searching.chosen_bit.Goals as goal
 

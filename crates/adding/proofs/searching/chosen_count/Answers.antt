@@ -1,7 +1,4 @@
-use Rattle.std.proofs.Common.{rules}
-use Prim.Native.Nat.{◌-◌}
-use native.Mathlib.Omega.{arith}
-use Rattle.adding.proofs.Keyed.{BitsTo, bits_none, bits_room, bits_more, bits_done}
+use Rattle.adding.proofs.Keyed.{bits_none, bits_room, bits_more, bits_done}
 use Rattle.adding.proofs.searching.chosen_count.Goals as goal
 
 pub loop-i-init : goal.loop-i-init

@@ -1,7 +1,6 @@
 -- `adding::searching::chosen_count` meets its contract. The invariant: n of the candidates below i are chosen. Assumes nothing.
 use Prim.Native.Nat.{◌-◌}
-use native.Mathlib.Omega.{arith}
-use Rattle.adding.proofs.Keyed.{BitsTo, bits_none, bits_room, bits_more, bits_done}
+use Rattle.adding.proofs.Keyed.{BitsTo}
 use Rattle.adding.proofs.searching.chosen_count.Given as goal
 
 abbrev pub invariant-loop-i : goal.invariant-loop-i

@@ -1,8 +1,6 @@
 use Rattle.std.proofs.Common.{rules}
-use Prim.Native.Nat.{◌-◌}
-use native.Mathlib.Omega.{arith}
 use mathlib.Core.Path.{refl}
-use Rattle.adding.proofs.Keyed.{SearchingTo, KeysOf, few_candidates, keys_room, keys_asked, key_room, asked_again, searching_first, searching_more, searching_found, searching_end}
+use Rattle.adding.proofs.Keyed.{few_candidates, keys_room, keys_asked, key_room, asked_again, searching_first, searching_more, searching_found, searching_end}
 use Rattle.adding.proofs.searching.first_key.Goals as goal
 
 pub selection_count-requires : goal.selection_count-requires

@@ -1,6 +1,5 @@
 -- `adding::searching::is_sure` meets its contract: another size than the key's, or the verdict. Assumes nothing.
-use Rattle.std.proofs.Common.{rules}
-use Rattle.adding.proofs.Keyed.{few_candidates, some_selections, other_size, this_size}
+use Rattle.adding.proofs.Keyed.{few_candidates, other_size, this_size}
 use Rattle.adding.proofs.searching.is_sure.Goals as goal
 
 pub selection_count-selections-requires : goal.selection_count-selections-requires

@@ -1,5 +1,4 @@
 -- `adding::searching::lay_base` meets its contract: who refers to whom, and the sets of nodes that no candidate touches. Assumes nothing.
-use Rattle.std.proofs.Common.{rules}
 use Rattle.fillers.proofs.Turning.{converse_none_held}
 use Rattle.adding.proofs.Starting.{base_laid}
 use Rattle.adding.proofs.searching.lay_base.Goals as goal

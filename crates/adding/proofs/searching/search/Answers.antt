@@ -1,5 +1,4 @@
 -- `adding::searching::search` meets its contract: either table has room. Assumes nothing.
-use Rattle.std.proofs.Common.{rules}
 use Rattle.settling.proofs.Settled.{small_tables, wide_tables}
 use Rattle.adding.proofs.searching.search.Goals as goal
 

@@ -1,5 +1,4 @@
 -- `checker::checking::answer` meets its contract. Assumes nothing.
-use Rattle.std.proofs.Common.{rules}
 use Rattle.checker.proofs.Answered.{answer_refused, answer_accepted}
 use Rattle.checker.proofs.checking.answer.Goals as goal
 

@@ -1,5 +1,4 @@
 -- `checker::checking::check_pairs` meets its contract, with levels. Assumes nothing.
-use Rattle.std.proofs.Common.{rules}
 use Rattle.support.proofs.ValueFaults.{checked_first, checked_next}
 use Rattle.checker.proofs.checking.check_pairs.Goals as goal
 

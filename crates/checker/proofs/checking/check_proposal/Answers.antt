@@ -1,5 +1,4 @@
 -- `checker::checking::check_proposal` meets its contract. Assumes nothing.
-use Rattle.std.proofs.Common.{rules}
 use Rattle.checker.proofs.Answered.{answered}
 use Rattle.checker.proofs.checking.check_proposal.Goals as goal
 

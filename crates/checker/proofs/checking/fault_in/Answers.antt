@@ -1,5 +1,4 @@
 -- `checker::checking::fault_in` meets its contract, code by code. Assumes nothing.
-use Rattle.std.proofs.Common.{rules}
 use Rattle.checker.proofs.Answered.{fault_older, fault_newer, levels_of_newer}
 use Rattle.checker.proofs.checking.fault_in.Goals as goal
 

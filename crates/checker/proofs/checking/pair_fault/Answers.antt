@@ -1,5 +1,4 @@
 -- `checker::checking::pair_fault` meets its contract: the pass for 15 ends where the pass for 14 did. Assumes nothing.
-use Rattle.std.proofs.Common.{rules}
 use Rattle.checker.proofs.Checked.{supported_few, pairs_checked}
 use Rattle.checker.proofs.checking.pair_fault.Goals as goal
 

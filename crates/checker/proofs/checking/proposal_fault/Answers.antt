@@ -1,5 +1,4 @@
 -- `checker::checking::proposal_fault` meets its contract: the table is large enough, and holds the sets of nodes. Assumes nothing.
-use Rattle.std.proofs.Common.{rules}
 use Rattle.fillers.proofs.Making.{small_room, wide_room}
 use Rattle.fillers.proofs.Prepared.{tables_made}
 use Rattle.checker.proofs.checking.proposal_fault.Goals as goal

@@ -1,5 +1,4 @@
 -- `finding::commands::find` meets its contract: what is found, judged by 20. Assumes nothing.
-use Rattle.std.proofs.Common.{rules}
 use Rattle.finding.proofs.Findings.{found_laid}
 use Rattle.finding.proofs.commands.find.Goals as goal
 

@@ -1,5 +1,4 @@
 -- `finding::commands::find_nested` meets its contract: 2, 4, then what the parts come to. Assumes nothing.
-use Rattle.std.proofs.Common.{rules}
 use Rattle.finding.proofs.Findings.{nested_disordered, nested_full, nested_room, nested_read}
 use Rattle.finding.proofs.commands.find_nested.Goals as goal
 

@@ -1,5 +1,4 @@
 -- `finding::commands::find_plain` meets its contract: a refusal, or a command whose shapes are noted. Assumes nothing.
-use Rattle.std.proofs.Common.{rules}
 use Rattle.finding.proofs.Findings.{plain_refused, plain_room, plain_noted}
 use Rattle.finding.proofs.commands.find_plain.Goals as goal
 

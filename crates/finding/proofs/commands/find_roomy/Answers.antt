@@ -1,5 +1,4 @@
 -- `finding::commands::find_roomy` meets its contract: a 28 or another command, judged by 19. Assumes nothing.
-use Rattle.std.proofs.Common.{rules}
 use Rattle.finding.proofs.Findings.{room_plain, nested_few, plain_few, found_nested, found_plain}
 use Rattle.finding.proofs.commands.find_roomy.Goals as goal
 

@@ -1,5 +1,4 @@
 -- `finding::commands::is_beyond` meets its contract: the step is taken apart, then the command. Assumes nothing.
-use Rattle.std.proofs.Common.{rules}
 use Rattle.finding.proofs.commands.is_beyond.Goals as goal
 
 pub returns-then-is_shape : goal.returns-then-is_shape

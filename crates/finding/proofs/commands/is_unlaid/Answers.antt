@@ -1,5 +1,4 @@
 -- `finding::commands::is_unlaid` meets its contract: the step is taken apart. Assumes nothing.
-use Rattle.std.proofs.Common.{rules}
 use mathlib.Core.Path.{ap}
 use mathlib.Core.Bool.{not}
 use Rattle.finding.proofs.commands.is_unlaid.Goals as goal

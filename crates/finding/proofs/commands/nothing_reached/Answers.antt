@@ -1,5 +1,4 @@
 -- `finding::commands::nothing_reached` meets its contract. Assumes nothing.
-use Rattle.std.proofs.Common.{rules}
 use Rattle.finding.proofs.commands.nothing_reached.Goals as goal
 
 pub returns : goal.returns

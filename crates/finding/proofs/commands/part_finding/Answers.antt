@@ -1,5 +1,4 @@
 -- `finding::commands::part_finding` meets its contract: each arm answers as the definition does for that variant. Assumes nothing.
-use Rattle.std.proofs.Common.{rules}
 use Rattle.finding.proofs.commands.part_finding.Goals as goal
 
 pub returns-in-Refused : goal.returns-in-Refused

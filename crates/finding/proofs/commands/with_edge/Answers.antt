@@ -1,5 +1,4 @@
 -- `finding::commands::with_edge` meets its contract. Assumes nothing.
-use Rattle.std.proofs.Common.{rules}
 use Rattle.finding.specs.Finding.{with_edge}
 use Rattle.finding.proofs.commands.with_edge.Goals as goal
 

@@ -1,5 +1,4 @@
 -- `finding::commands::with_room` meets its contract. Assumes nothing.
-use Rattle.std.proofs.Common.{rules}
 use Rattle.finding.specs.Finding.{with_room}
 use Rattle.finding.proofs.commands.with_room.Goals as goal
 

@@ -1,5 +1,4 @@
 -- `finding::noting::note` meets its contract: each arm notes the shapes that its command names. Assumes nothing.
-use Rattle.std.proofs.Common.{rules}
 use Rattle.finding.proofs.Notes.{room_shape, room_target, noted_of_other, noted_of_shape, noted_of_target}
 use Rattle.cases.specs.Reading.{shapes_named}
 use Rattle.finding.proofs.noting.note.Goals as goal

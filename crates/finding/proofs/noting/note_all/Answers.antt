@@ -1,5 +1,4 @@
 -- `finding::noting::note_all` meets its contract: each arm notes its references. Assumes nothing.
-use Rattle.std.proofs.Common.{rules}
 use Rattle.finding.proofs.Notes.{room_one, room_two, note_room_second, noted_of_none, noted_of_one, noted_of_two}
 use Rattle.finding.proofs.noting.note_all.Goals as goal
 

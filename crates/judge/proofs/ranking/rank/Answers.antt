@@ -1,5 +1,4 @@
 -- `judge::ranking::rank` meets its contract. Assumes nothing.
-use Rattle.std.proofs.Common.{rules}
 use Rattle.judge.proofs.Ranks.{ranked_shapes_there, rank_refused, strata_there, rank_read}
 use Rattle.judge.proofs.ranking.rank.Goals as goal
 

@@ -1,5 +1,4 @@
 -- `judge::solving::solve` meets its contract. Assumes nothing.
-use Rattle.std.proofs.Common.{rules}
 use Rattle.judge.proofs.Solves.{solve_refused, solve_room, solve_read}
 use Rattle.judge.proofs.solving.solve.Goals as goal
 

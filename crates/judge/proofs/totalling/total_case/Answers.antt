@@ -1,5 +1,4 @@
 -- `judge::totalling::total_case` meets its contract. Assumes nothing.
-use Rattle.std.proofs.Common.{rules}
 use native.Mathlib.Omega.{arith}
 use Rattle.judge.proofs.Totals.{node_totalled}
 use Rattle.judge.proofs.totalling.total_case.Goals as goal

@@ -1,5 +1,3 @@
-use Rattle.std.proofs.Common.{rules}
-use Prim.Native.Nat.{◌-◌, ◌≤◌}
 use native.Mathlib.Omega.{arith}
 use Rattle.justifying.proofs.InDigits.{digits_more}
 use Rattle.justifying.proofs.digits.digits_of.Goals as goal

@@ -1,7 +1,5 @@
 -- `justifying::digits::digits_of` meets its contract. The invariant: there are no more than 16. Assumes nothing.
 use Prim.Native.Nat.{◌-◌, ◌≤◌}
-use native.Mathlib.Omega.{arith}
-use Rattle.justifying.proofs.InDigits.{digits_more}
 use Rattle.justifying.proofs.digits.digits_of.Given as goal
 
 abbrev pub invariant-loop-n : goal.invariant-loop-n

@@ -1,7 +1,5 @@
-use Rattle.std.proofs.Common.{rules}
-use Prim.Native.Nat.{◌-◌}
 use native.Mathlib.Omega.{arith}
-use Rattle.justifying.proofs.InDigits.{DigitsFilledTo, digits_filled_none, digits_filled_more, digits_filled_done}
+use Rattle.justifying.proofs.InDigits.{digits_filled_none, digits_filled_more, digits_filled_done}
 use Rattle.justifying.proofs.digits.fill_digits.Goals as goal
 
 pub loop-a-init : goal.loop-a-init

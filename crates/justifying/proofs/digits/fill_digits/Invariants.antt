@@ -1,7 +1,6 @@
 -- `justifying::digits::fill_digits` meets its contract. The invariant: the levels of the nodes below a are there. Assumes nothing.
 use Prim.Native.Nat.{◌-◌}
-use native.Mathlib.Omega.{arith}
-use Rattle.justifying.proofs.InDigits.{DigitsFilledTo, digits_filled_none, digits_filled_more, digits_filled_done}
+use Rattle.justifying.proofs.InDigits.{DigitsFilledTo}
 use Rattle.justifying.proofs.digits.fill_digits.Given as goal
 
 abbrev pub invariant-loop-a : goal.invariant-loop-a

@@ -1,6 +1,5 @@
-use Rattle.std.proofs.Common.{rules}
 use native.Mathlib.Omega.{arith}
-use Rattle.justifying.proofs.InDigits.{InsertedBut, inserted_none, inserted_row, inserted_more, inserted_done}
+use Rattle.justifying.proofs.InDigits.{inserted_none, inserted_row, inserted_more, inserted_done}
 use Rattle.justifying.proofs.digits.insert_digits.Goals as goal
 
 pub loop-rest-init : goal.loop-rest-init

@@ -1,6 +1,5 @@
 -- `justifying::digits::insert_digits` meets its contract. The invariant: the node is in the rows of the digits outside `rest`. Assumes nothing.
-use native.Mathlib.Omega.{arith}
-use Rattle.justifying.proofs.InDigits.{InsertedBut, inserted_none, inserted_row, inserted_more, inserted_done}
+use Rattle.justifying.proofs.InDigits.{InsertedBut}
 use Rattle.justifying.proofs.digits.insert_digits.Given as goal
 
 abbrev pub invariant-loop-rest : goal.invariant-loop-rest

@@ -1,5 +1,4 @@
 -- `justifying::digits::lower_next` meets its contract. Assumes nothing.
-use Rattle.std.proofs.Common.{rules}
 use Rattle.justifying.proofs.InDigits.{lower_one, lower_zero}
 use Rattle.justifying.proofs.digits.lower_next.Goals as goal
 

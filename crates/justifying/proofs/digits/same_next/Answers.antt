@@ -1,5 +1,4 @@
 -- `justifying::digits::same_next` meets its contract. Assumes nothing.
-use Rattle.std.proofs.Common.{rules}
 use Rattle.justifying.proofs.InDigits.{same_one, same_zero}
 use Rattle.justifying.proofs.digits.same_next.Goals as goal
 

@@ -1,5 +1,4 @@
 -- `justifying::justification::digits_over` meets its contract. Assumes nothing.
-use Rattle.std.proofs.Common.{rules}
 use Rattle.justifying.proofs.Justified.{digits_unused, digits_used}
 use Rattle.justifying.proofs.justification.digits_over.Goals as goal
 

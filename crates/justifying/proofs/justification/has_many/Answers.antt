@@ -1,5 +1,3 @@
-use Rattle.std.proofs.Common.{rules}
-use Prim.Native.Nat.{◌-◌, ◌≤◌}
 use native.Mathlib.Omega.{arith}
 use Rattle.support.proofs.RulesThere.{block_row, block_row_small}
 use Rattle.justifying.proofs.justification.has_many.Goals as goal

@@ -1,7 +1,5 @@
 -- `justifying::justification::has_many` is safe and ends; what it answers is only a matter of speed. Assumes nothing.
 use Prim.Native.Nat.{◌-◌, ◌≤◌}
-use native.Mathlib.Omega.{arith}
-use Rattle.support.proofs.RulesThere.{block_row, block_row_small}
 use Rattle.justifying.proofs.justification.has_many.Given as goal
 
 abbrev pub invariant-loop-a : goal.invariant-loop-a

@@ -1,5 +1,4 @@
 -- `justifying::justification::is_justified` meets its contract: the sets tell the value of the pair. Assumes nothing.
-use Rattle.std.proofs.Common.{rules}
 use Rattle.support.proofs.RulesThere.{set_row, node_in_words}
 use Rattle.justifying.proofs.Justified.{justified_valid, justified_open, justified_violated}
 use Rattle.justifying.proofs.justification.is_justified.Goals as goal

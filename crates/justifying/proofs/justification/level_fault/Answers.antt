@@ -1,8 +1,5 @@
-use Rattle.std.proofs.Common.{rules}
-use Prim.Native.Nat.{◌-◌}
-use native.Mathlib.Omega.{arith}
 use Rattle.support.proofs.RulesThere.{shape_row_there}
-use Rattle.justifying.proofs.Justified.{JustifiedRows, justified_rows_none, levels_read, justified_rows_more, justified_rows_first, justified_rows_all}
+use Rattle.justifying.proofs.Justified.{justified_rows_none, levels_read, justified_rows_more, justified_rows_first, justified_rows_all}
 use Rattle.justifying.proofs.justification.level_fault.Goals as goal
 
 pub loop-s-init : goal.loop-s-init

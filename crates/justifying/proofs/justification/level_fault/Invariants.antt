@@ -1,8 +1,6 @@
 -- `justifying::justification::level_fault` meets its contract. The invariant: the pairs of the shapes below s are justified, if they are supported. Assumes nothing.
 use Prim.Native.Nat.{◌-◌}
-use native.Mathlib.Omega.{arith}
-use Rattle.support.proofs.RulesThere.{shape_row_there}
-use Rattle.justifying.proofs.Justified.{JustifiedRows, justified_rows_none, levels_read, justified_rows_more, justified_rows_first, justified_rows_all}
+use Rattle.justifying.proofs.Justified.{JustifiedRows}
 use Rattle.justifying.proofs.justification.level_fault.Given as goal
 
 abbrev pub invariant-loop-s : goal.invariant-loop-s

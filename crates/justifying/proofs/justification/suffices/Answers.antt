@@ -1,5 +1,4 @@
 -- `justifying::justification::suffices` meets its contract. Assumes nothing.
-use Rattle.std.proofs.Common.{rules}
 use native.Mathlib.Omega.{arith}
 use Rattle.justifying.proofs.Justified.{level_base_fits, level_place_fits, level_place_there, suffices_never, suffices_if}
 use Rattle.justifying.proofs.justification.suffices.Goals as goal

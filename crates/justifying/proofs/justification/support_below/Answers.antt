@@ -1,5 +1,4 @@
 -- `justifying::justification::support_below` meets its contract: each arm's tests are those of its rule. Assumes nothing.
-use Rattle.std.proofs.Common.{rules}
 use native.Mathlib.Omega.{arith}
 use mathlib.Core.Path.{refl}
 use Rattle.semantics.specs.Levels.{support_below}

@@ -1,7 +1,5 @@
-use Rattle.std.proofs.Common.{rules}
-use Prim.Native.Nat.{◌-◌}
 use native.Mathlib.Omega.{arith}
-use Rattle.justifying.proofs.Justified.{JustifiedTo, level_base_fits, level_end_fits, justified_none, justified_node, justified_more, justified_first, justified_all}
+use Rattle.justifying.proofs.Justified.{level_base_fits, level_end_fits, justified_none, justified_node, justified_more, justified_first, justified_all}
 use Rattle.justifying.proofs.justification.unjustified_row.Goals as goal
 
 pub overflow_mul-first : goal.overflow_mul-first

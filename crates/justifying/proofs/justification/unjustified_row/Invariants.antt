@@ -1,8 +1,7 @@
 -- `justifying::justification::unjustified_row` meets its contract. The invariant: the pairs of the shape below k are justified, if they are
 -- supported. Assumes nothing.
 use Prim.Native.Nat.{◌-◌}
-use native.Mathlib.Omega.{arith}
-use Rattle.justifying.proofs.Justified.{JustifiedTo, level_base_fits, level_end_fits, justified_none, justified_node, justified_more, justified_first, justified_all}
+use Rattle.justifying.proofs.Justified.{JustifiedTo}
 use Rattle.justifying.proofs.justification.unjustified_row.Given as goal
 
 abbrev pub invariant-loop-k : goal.invariant-loop-k

@@ -1,5 +1,4 @@
 -- `justifying::justification::unjustified_shape` meets its contract. Assumes nothing.
-use Rattle.std.proofs.Common.{rules}
 use Rattle.justifying.proofs.Justified.{digits_room}
 use Rattle.justifying.proofs.justification.unjustified_shape.Goals as goal
 

@@ -1,8 +1,4 @@
-use Rattle.std.proofs.Common.{rules}
-use Prim.Native.Nat.{◌-◌}
-use native.Mathlib.Omega.{arith}
-use Rattle.justifying.specs.LevelRows.{is_low}
-use Rattle.justifying.proofs.Lowered.{PassedTo, asked_row, row_passed_none, row_passed_more, row_passed_not, row_passed_done}
+use Rattle.justifying.proofs.Lowered.{asked_row, row_passed_none, row_passed_more, row_passed_not, row_passed_done}
 use Rattle.justifying.proofs.low_levels.all_lower.Goals as goal
 
 pub loop-i-init : goal.loop-i-init

@@ -1,8 +1,7 @@
 -- `justifying::low_levels::all_lower` meets its contract. The invariant: the levels at the nodes of the first i words are low. Assumes nothing.
 use Prim.Native.Nat.{◌-◌}
-use native.Mathlib.Omega.{arith}
 use Rattle.justifying.specs.LevelRows.{is_low}
-use Rattle.justifying.proofs.Lowered.{PassedTo, asked_row, row_passed_none, row_passed_more, row_passed_not, row_passed_done}
+use Rattle.justifying.proofs.Lowered.{PassedTo}
 use Rattle.justifying.proofs.low_levels.all_lower.Given as goal
 
 abbrev pub invariant-loop-i : goal.invariant-loop-i

@@ -1,8 +1,4 @@
-use Rattle.std.proofs.Common.{rules}
-use Prim.Native.Nat.{◌-◌}
-use native.Mathlib.Omega.{arith}
-use Rattle.justifying.specs.LevelRows.{is_low}
-use Rattle.justifying.proofs.Lowered.{PassingTo, asked_common, passing_none, passing_more, passing_ones, passing_fits, passing_done}
+use Rattle.justifying.proofs.Lowered.{asked_common, passing_none, passing_more, passing_ones, passing_fits, passing_done}
 use Rattle.justifying.proofs.low_levels.count_lower.Goals as goal
 
 pub loop-i-init : goal.loop-i-init

@@ -1,5 +1,4 @@
 -- `justifying::low_levels::is_low_member` meets its contract. Assumes nothing.
-use Rattle.std.proofs.Common.{rules}
 use Rattle.justifying.proofs.Justified.{both_hold, first_fails}
 use Rattle.justifying.proofs.low_levels.is_low_member.Goals as goal
 

@@ -1,5 +1,4 @@
 -- `justifying::low_levels::is_lower` meets its contract. Assumes nothing.
-use Rattle.std.proofs.Common.{rules}
 use Rattle.justifying.proofs.Lowered.{lower_said}
 use Rattle.justifying.proofs.low_levels.is_lower.Goals as goal
 

@@ -1,7 +1,5 @@
-use Rattle.std.proofs.Common.{rules}
 use native.Mathlib.Omega.{arith}
-use Rattle.justifying.specs.LevelRows.{is_low}
-use Rattle.justifying.proofs.Lowered.{sorted_base, sorted_fits, SortedBut, sorted_none, sorted_node, sorted_more, sorted_done}
+use Rattle.justifying.proofs.Lowered.{sorted_base, sorted_fits, sorted_none, sorted_node, sorted_more, sorted_done}
 use Rattle.justifying.proofs.low_levels.lower_by_node.Goals as goal
 
 pub loop-rest-init : goal.loop-rest-init

@@ -1,7 +1,6 @@
 -- `justifying::low_levels::lower_by_node` meets its contract. The invariant: the nodes outside `rest` are sorted out. Assumes nothing.
-use native.Mathlib.Omega.{arith}
 use Rattle.justifying.specs.LevelRows.{is_low}
-use Rattle.justifying.proofs.Lowered.{sorted_base, sorted_fits, SortedBut, sorted_none, sorted_node, sorted_more, sorted_done}
+use Rattle.justifying.proofs.Lowered.{SortedBut}
 use Rattle.justifying.proofs.low_levels.lower_by_node.Given as goal
 
 abbrev pub invariant-loop-rest : goal.invariant-loop-rest

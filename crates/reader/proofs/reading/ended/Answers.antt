@@ -1,5 +1,4 @@
 -- `reader::reading::ended` meets its contract: 8, 9, or the expansion. Assumes nothing.
-use Rattle.std.proofs.Common.{rules}
 use Rattle.reader.proofs.Walking.{ended_after, ended_unknown, ended_well}
 use Rattle.reader.proofs.reading.ended.Goals as goal
 

@@ -1,5 +1,4 @@
 -- `reader::reading::parse` meets its contract: a refusal of what the input begins with, or the walk. Assumes nothing.
-use Rattle.std.proofs.Common.{rules}
 use mathlib.Core.Path.{sym, ◌∙◌}
 use Rattle.reader.proofs.Walking.{heading_refused}
 use Rattle.reader.proofs.reading.parse.Goals as goal

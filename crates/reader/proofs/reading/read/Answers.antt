@@ -1,5 +1,4 @@
 -- `reader::reading::read` meets its contract: the answer is read off what `parse` left. Assumes nothing.
-use Rattle.std.proofs.Common.{rules}
 use Rattle.reader.proofs.Walking.{answer}
 use Rattle.reader.proofs.reading.read.Goals as goal
 

@@ -1,5 +1,4 @@
 -- `reader::reading::refused` meets its contract. Assumes nothing.
-use Rattle.std.proofs.Common.{rules}
 use Rattle.reader.proofs.reading.refused.Goals as goal
 
 pub returns : goal.returns

@@ -1,11 +1,6 @@
-use Rattle.std.proofs.Common.{rules}
-use lib.ListN.{drop}
-use mathlib.Core.Path.{◌≡◌, refl, sym, ◌∙◌}
+use mathlib.Core.Path.{refl, sym, ◌∙◌}
 use native.Mathlib.Omega.{arith}
-use Prim.Native.Nat.{◌≤◌, ◌-◌}
 use Rattle.reader.proofs.Unknown.{unknown_here, unknown_later, unknown_none}
-use Rattle.parts.specs.Tables.{named_in}
-use Rattle.cases.specs.Reading.{unknown_shape}
 use Rattle.reader.proofs.reading.unknown_shape.Goals as goal
 
 pub loop-i-init : goal.loop-i-init

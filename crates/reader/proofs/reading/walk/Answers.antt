@@ -1,9 +1,6 @@
-use Rattle.std.proofs.Common.{rules}
-use Prim.Native.Nat.{◌-◌}
 use native.Mathlib.Omega.{arith}
-use lib.ListN.{length}
-use mathlib.Core.Path.{◌≡◌, refl, sym, ◌∙◌}
-use Rattle.reader.proofs.Walking.{Going, going_none, going_over, row_room, find_room, going_refused, end_room, going_ended, store_room, taken_fits, taken_some, going_more}
+use mathlib.Core.Path.{refl, sym, ◌∙◌}
+use Rattle.reader.proofs.Walking.{going_none, going_over, row_room, find_room, going_refused, end_room, going_ended, store_room, taken_fits, taken_some, going_more}
 use Rattle.reader.proofs.reading.walk.Goals as goal
 
 pub loop-at-init : goal.loop-at-init

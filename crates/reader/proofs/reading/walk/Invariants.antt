@@ -1,10 +1,9 @@
 -- `reader::reading::walk` meets its contract. The loop's invariant: what the input comes to is what the walk comes to from `at` with what the
 -- tables hold (`Going`), and the rows keep their length. The measure is the bytes left. Assumes nothing.
 use Prim.Native.Nat.{◌-◌}
-use native.Mathlib.Omega.{arith}
 use lib.ListN.{length}
-use mathlib.Core.Path.{◌≡◌, refl, sym, ◌∙◌}
-use Rattle.reader.proofs.Walking.{Going, going_none, going_over, row_room, find_room, going_refused, end_room, going_ended, store_room, taken_fits, taken_some, going_more}
+use mathlib.Core.Path.{◌≡◌}
+use Rattle.reader.proofs.Walking.{Going}
 use Rattle.reader.proofs.reading.walk.Given as goal
 
 abbrev pub invariant-loop-at : goal.invariant-loop-at

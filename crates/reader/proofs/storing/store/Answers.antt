@@ -1,5 +1,4 @@
 -- `reader::storing::store` meets its contract: each arm adds a command of its kind. Assumes nothing.
-use Rattle.std.proofs.Common.{rules}
 use Rattle.reader.proofs.Stores.{stored_nodes, stored_edge, stored_path, stored_shape, target_fits, stored_target, stored_end}
 use Rattle.reader.proofs.storing.store.Goals as goal
 

@@ -1,5 +1,4 @@
 -- `support::proposing::check_support` meets its contract, without levels. Assumes nothing.
-use Rattle.std.proofs.Common.{rules}
 use Rattle.support.proofs.ValueFaults.{checked_first, checked_next}
 use Rattle.support.proofs.proposing.check_support.Goals as goal
 

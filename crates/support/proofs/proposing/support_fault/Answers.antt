@@ -1,8 +1,5 @@
-use Rattle.std.proofs.Common.{rules}
-use Prim.Native.Nat.{◌-◌}
-use native.Mathlib.Omega.{arith}
 use Rattle.support.proofs.RulesThere.{shape_row_there}
-use Rattle.support.proofs.Supported.{SupportedRows, supported_rows_none, values_read, supported_rows_more, supported_rows_first, supported_rows_all}
+use Rattle.support.proofs.Supported.{supported_rows_none, values_read, supported_rows_more, supported_rows_first, supported_rows_all}
 use Rattle.support.proofs.proposing.support_fault.Goals as goal
 
 pub loop-s-init : goal.loop-s-init

@@ -1,8 +1,6 @@
 -- `support::proposing::support_fault` meets its contract. The invariant: the pairs of the shapes below s are supported. Assumes nothing.
 use Prim.Native.Nat.{◌-◌}
-use native.Mathlib.Omega.{arith}
-use Rattle.support.proofs.RulesThere.{shape_row_there}
-use Rattle.support.proofs.Supported.{SupportedRows, supported_rows_none, values_read, supported_rows_more, supported_rows_first, supported_rows_all}
+use Rattle.support.proofs.Supported.{SupportedRows}
 use Rattle.support.proofs.proposing.support_fault.Given as goal
 
 abbrev pub invariant-loop-s : goal.invariant-loop-s

@@ -1,8 +1,6 @@
 use Rattle.std.proofs.Common.{rules}
-use Prim.Native.Nat.{◌-◌}
-use native.Mathlib.Omega.{arith}
 use Rattle.support.proofs.RulesThere.{own_row_fits, own_place_fits, value_there}
-use Rattle.support.proofs.Supported.{SupportedTo, supported_none, supported_more, supported_first, supported_all}
+use Rattle.support.proofs.Supported.{supported_none, supported_more, supported_first, supported_all}
 use Rattle.support.proofs.proposing.unsupported_row.Goals as goal
 
 pub loop-a-init : goal.loop-a-init

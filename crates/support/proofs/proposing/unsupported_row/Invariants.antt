@@ -1,8 +1,6 @@
 -- `support::proposing::unsupported_row` meets its contract. The invariant: the pairs at the nodes below a are supported. Assumes nothing.
 use Prim.Native.Nat.{◌-◌}
-use native.Mathlib.Omega.{arith}
-use Rattle.support.proofs.RulesThere.{own_row_fits, own_place_fits, value_there}
-use Rattle.support.proofs.Supported.{SupportedTo, supported_none, supported_more, supported_first, supported_all}
+use Rattle.support.proofs.Supported.{SupportedTo}
 use Rattle.support.proofs.proposing.unsupported_row.Given as goal
 
 abbrev pub invariant-loop-a : goal.invariant-loop-a

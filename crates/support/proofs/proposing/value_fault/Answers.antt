@@ -1,9 +1,6 @@
-use Rattle.std.proofs.Common.{rules}
-use Prim.Native.Nat.{◌-◌}
-use native.Mathlib.Omega.{arith}
 use mathlib.Core.Path.{◌∙◌}
-use Rattle.semantics.proofs.Refusing.{Well, well_none, well_more, well_first, well_all}
-use Rattle.support.proofs.ValueFaults.{unvalued, unvalued_at}
+use Rattle.semantics.proofs.Refusing.{well_none, well_more, well_first, well_all}
+use Rattle.support.proofs.ValueFaults.{unvalued_at}
 use Rattle.support.proofs.proposing.value_fault.Goals as goal
 
 pub loop-k-init : goal.loop-k-init

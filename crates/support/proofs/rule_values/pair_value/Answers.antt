@@ -1,5 +1,4 @@
 -- `support::rule_values::pair_value` meets its contract. Assumes nothing.
-use Rattle.std.proofs.Common.{rules}
 use Rattle.support.proofs.RulesThere.{live_row, node_in_words}
 use Rattle.support.proofs.Supported.{pair_live, pair_dead}
 use Rattle.support.proofs.rule_values.pair_value.Goals as goal

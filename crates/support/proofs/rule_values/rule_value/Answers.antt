@@ -1,5 +1,4 @@
 -- `support::rule_values::rule_value` meets its contract: each arm's value is its rule's. Assumes nothing.
-use Rattle.std.proofs.Common.{rules}
 use native.Mathlib.Omega.{arith}
 use Rattle.support.proofs.RulesThere.{and_first_known, and_second_known, or_first_known, or_second_known, not_known, all_known, least_known}
 use Rattle.support.proofs.RulesThere.{same_first_named, same_second_named, all_path_named, least_path_named}

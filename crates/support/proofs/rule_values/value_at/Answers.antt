@@ -1,5 +1,4 @@
 -- `support::rule_values::value_at` meets its contract. Assumes nothing.
-use Rattle.std.proofs.Common.{rules}
 use Rattle.support.proofs.Supported.{said_value_is, said_above}
 use Rattle.support.proofs.rule_values.value_at.Goals as goal
 

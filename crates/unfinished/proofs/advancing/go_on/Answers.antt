@@ -1,5 +1,4 @@
 -- `unfinished::advancing::go_on` meets its contract. Assumes nothing.
-use Rattle.std.proofs.Common.{rules}
 use Rattle.unfinished.proofs.Holding.{round_due, round_over}
 use Rattle.unfinished.proofs.advancing.go_on.Goals as goal
 

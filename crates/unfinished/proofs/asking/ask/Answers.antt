@@ -1,5 +1,4 @@
 -- `unfinished::asking::ask` meets its contract. Assumes nothing.
-use Rattle.std.proofs.Common.{rules}
 use native.Mathlib.Omega.{arith}
 use Rattle.unfinished.proofs.Replies.{reply_said, question_refused}
 use Rattle.unfinished.proofs.asking.ask.Goals as goal

@@ -1,5 +1,4 @@
 -- `unfinished::asking::byte_at` meets its contract. Assumes nothing.
-use Rattle.std.proofs.Common.{rules}
 use native.Mathlib.Omega.{arith}
 use Rattle.unfinished.proofs.Replies.{behind_end}
 use Rattle.unfinished.proofs.asking.byte_at.Goals as goal

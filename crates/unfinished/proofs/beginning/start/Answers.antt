@@ -1,5 +1,4 @@
 -- `unfinished::beginning::start` meets its contract. Assumes nothing.
-use Rattle.std.proofs.Common.{rules}
 use Rattle.unfinished.proofs.Opening.{input_short, start_refused, start_read, pairs_fit_word}
 use Rattle.unfinished.proofs.beginning.start.Goals as goal
 
