@@ -1,5 +1,4 @@
 -- `pairs::answering::tally_answers` meets its contract. Assumes nothing.
-use Rattle.std.proofs.Common.{rules}
 use Rattle.pairs.proofs.Answered.{tallied}
 use Rattle.pairs.proofs.answering.tally_answers.Goals as goal
 

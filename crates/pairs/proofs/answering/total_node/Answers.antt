@@ -1,5 +1,4 @@
 -- `pairs::answering::total_node` meets its contract. Assumes nothing.
-use Rattle.std.proofs.Common.{rules}
 use Rattle.pairs.proofs.Answered.{totals_tallied}
 use Rattle.pairs.proofs.answering.total_node.Goals as goal
 

@@ -1,5 +1,4 @@
 -- `pairs::answering::write_answers` meets its contract. Assumes nothing.
-use Rattle.std.proofs.Common.{rules}
 use Rattle.pairs.proofs.Answered.{answers_written}
 use mathlib.Core.Path.{refl}
 use Rattle.pairs.proofs.answering.write_answers.Goals as goal

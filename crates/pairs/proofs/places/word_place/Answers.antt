@@ -1,5 +1,4 @@
 -- `pairs::places::word_place` meets its contract. Assumes nothing.
-use Rattle.std.proofs.Common.{rules}
 use Rattle.pairs.proofs.WordPlaces.{row_fits, place_fits, place_small}
 use Rattle.pairs.proofs.places.word_place.Goals as goal
 

@@ -1,5 +1,4 @@
 -- `pairs::tallies::one_if` meets its contract. Assumes nothing.
-use Rattle.std.proofs.Common.{rules}
 use borrow.Author.Tests.{eq-eqb, ne_eqb}
 use Rattle.pairs.proofs.tallies.one_if.Goals as goal
 

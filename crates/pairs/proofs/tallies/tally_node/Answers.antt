@@ -1,8 +1,6 @@
-use Rattle.std.proofs.Common.{rules}
-use Prim.Native.Nat.{◌-◌}
 use native.Mathlib.Omega.{arith}
 use Rattle.pairs.proofs.Valued.{row_wide, set_row_there, node_there}
-use Rattle.pairs.proofs.Tallying.{node_value_at, Tallied, tallied_none, tallied_more, tallied_fits, node_value, node_tallied}
+use Rattle.pairs.proofs.Tallying.{tallied_none, tallied_more, tallied_fits, node_value, node_tallied}
 use Rattle.pairs.proofs.tallies.tally_node.Goals as goal
 
 pub loop-s-init : goal.loop-s-init

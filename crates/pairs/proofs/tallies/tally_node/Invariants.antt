@@ -1,8 +1,6 @@
 -- `pairs::tallies::tally_node` meets its contract. The invariant: the pairs of the shapes below s are counted. Assumes nothing.
 use Prim.Native.Nat.{◌-◌}
-use native.Mathlib.Omega.{arith}
-use Rattle.pairs.proofs.Valued.{row_wide, set_row_there, node_there}
-use Rattle.pairs.proofs.Tallying.{node_value_at, Tallied, tallied_none, tallied_more, tallied_fits, node_value, node_tallied}
+use Rattle.pairs.proofs.Tallying.{node_value_at, Tallied}
 use Rattle.pairs.proofs.tallies.tally_node.Given as goal
 
 abbrev pub invariant-loop-s : goal.invariant-loop-s

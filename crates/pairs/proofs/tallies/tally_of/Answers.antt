@@ -1,8 +1,5 @@
-use Rattle.std.proofs.Common.{rules}
-use Prim.Native.Nat.{◌-◌}
 use native.Mathlib.Omega.{arith}
-use lib.ListN.{get_or}
-use Rattle.pairs.proofs.Tallying.{Tallied, tallied_none, tallied_more, tallied_fits, bytes_tallied}
+use Rattle.pairs.proofs.Tallying.{tallied_none, tallied_more, tallied_fits, bytes_tallied}
 use Rattle.pairs.proofs.tallies.tally_of.Goals as goal
 
 pub loop-i-init : goal.loop-i-init

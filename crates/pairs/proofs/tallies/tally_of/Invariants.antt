@@ -1,8 +1,7 @@
 -- `pairs::tallies::tally_of` meets its contract. The invariant: the bytes below i are counted. Assumes nothing.
 use Prim.Native.Nat.{◌-◌}
-use native.Mathlib.Omega.{arith}
 use lib.ListN.{get_or}
-use Rattle.pairs.proofs.Tallying.{Tallied, tallied_none, tallied_more, tallied_fits, bytes_tallied}
+use Rattle.pairs.proofs.Tallying.{Tallied}
 use Rattle.pairs.proofs.tallies.tally_of.Given as goal
 
 abbrev pub invariant-loop-i : goal.invariant-loop-i

@@ -1,7 +1,5 @@
-use Rattle.std.proofs.Common.{rules}
-use Prim.Native.Nat.{◌-◌}
 use native.Mathlib.Omega.{arith}
-use Rattle.pairs.proofs.Tallying.{verdict_at, Tallied, tallied_none, tallied_more, tallied_fits, targets_tallied}
+use Rattle.pairs.proofs.Tallying.{tallied_none, tallied_more, tallied_fits, targets_tallied}
 use Rattle.pairs.proofs.tallies.tally_targets.Goals as goal
 
 pub loop-i-init : goal.loop-i-init

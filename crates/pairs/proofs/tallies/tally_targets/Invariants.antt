@@ -1,7 +1,6 @@
 -- `pairs::tallies::tally_targets` meets its contract. The invariant: the targets below i are counted. Assumes nothing.
 use Prim.Native.Nat.{◌-◌}
-use native.Mathlib.Omega.{arith}
-use Rattle.pairs.proofs.Tallying.{verdict_at, Tallied, tallied_none, tallied_more, tallied_fits, targets_tallied}
+use Rattle.pairs.proofs.Tallying.{verdict_at, Tallied}
 use Rattle.pairs.proofs.tallies.tally_targets.Given as goal
 
 abbrev pub invariant-loop-i : goal.invariant-loop-i

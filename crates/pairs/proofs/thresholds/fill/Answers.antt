@@ -1,7 +1,4 @@
-use Rattle.std.proofs.Common.{rules}
-use Prim.Native.Nat.{◌-◌}
-use native.Mathlib.Omega.{arith}
-use Rattle.pairs.proofs.Raised.{ThresholdTo, threshold_none, raised_row_wide, raised_row_there, row_valued, threshold_more, threshold_done}
+use Rattle.pairs.proofs.Raised.{threshold_none, raised_row_wide, raised_row_there, row_valued, threshold_more, threshold_done}
 use Rattle.pairs.proofs.thresholds.fill.Goals as goal
 
 pub loop-s-init : goal.loop-s-init

@@ -1,7 +1,6 @@
 -- `pairs::thresholds::fill` meets its contract. The invariant: the rows of the shapes below s are done. Assumes nothing.
 use Prim.Native.Nat.{◌-◌}
-use native.Mathlib.Omega.{arith}
-use Rattle.pairs.proofs.Raised.{ThresholdTo, threshold_none, raised_row_wide, raised_row_there, row_valued, threshold_more, threshold_done}
+use Rattle.pairs.proofs.Raised.{ThresholdTo}
 use Rattle.pairs.proofs.thresholds.fill.Given as goal
 
 abbrev pub invariant-loop-s : goal.invariant-loop-s

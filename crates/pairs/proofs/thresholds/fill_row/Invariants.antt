@@ -1,8 +1,6 @@
 -- `pairs::thresholds::fill_row` meets its contract. The invariant: the nodes below a are added. Assumes nothing.
 use Prim.Native.Nat.{◌-◌}
-use native.Mathlib.Omega.{arith}
-use mathlib.Core.Logic.{⊎_elim}
-use Rattle.pairs.proofs.Raised.{RowAtLeastTo, at_least_none, at_least_more, raised_same, at_least_done}
+use Rattle.pairs.proofs.Raised.{RowAtLeastTo}
 use Rattle.pairs.proofs.thresholds.fill_row.Given as goal
 
 abbrev pub invariant-loop-a : goal.invariant-loop-a

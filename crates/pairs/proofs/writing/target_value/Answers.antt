@@ -1,5 +1,4 @@
 -- `pairs::writing::target_value` meets its contract: the target's pair is below the pair count. Assumes nothing.
-use Rattle.std.proofs.Common.{rules}
 use Rattle.pairs.proofs.Tallying.{target_row_fits, pair_fits, target_pair_in, pair_value}
 use Rattle.pairs.proofs.writing.target_value.Goals as goal
 

@@ -1,5 +1,4 @@
 -- `pairs::writing::value_at` meets its contract. Assumes nothing.
-use Rattle.std.proofs.Common.{rules}
 use Rattle.pairs.proofs.Valued.{value_is}
 use Rattle.pairs.proofs.writing.value_at.Goals as goal
 

@@ -1,7 +1,4 @@
-use Rattle.std.proofs.Common.{rules}
-use Prim.Native.Nat.{◌-◌, ◌*◌}
-use native.Mathlib.Omega.{arith}
-use Rattle.pairs.proofs.Valued.{RowTo, row_to_none, row_more, row_done}
+use Rattle.pairs.proofs.Valued.{row_to_none, row_more, row_done}
 use Rattle.pairs.proofs.writing.write_row.Goals as goal
 
 pub loop-a-init : goal.loop-a-init

@@ -1,7 +1,6 @@
 -- `pairs::writing::write_row` meets its contract. The invariant: the values of the nodes below a are put. The measure is the bits left of a row. Assumes nothing.
 use Prim.Native.Nat.{◌-◌, ◌*◌}
-use native.Mathlib.Omega.{arith}
-use Rattle.pairs.proofs.Valued.{RowTo, row_to_none, row_more, row_done}
+use Rattle.pairs.proofs.Valued.{RowTo}
 use Rattle.pairs.proofs.writing.write_row.Given as goal
 
 abbrev pub invariant-loop-a : goal.invariant-loop-a

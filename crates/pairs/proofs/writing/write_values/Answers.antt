@@ -1,7 +1,4 @@
-use Rattle.std.proofs.Common.{rules}
-use Prim.Native.Nat.{◌-◌}
-use native.Mathlib.Omega.{arith}
-use Rattle.pairs.proofs.Valued.{RowsTo, row_wide, set_row_there, values_row_room, values_rows_none, values_rows_more, values_rows_done}
+use Rattle.pairs.proofs.Valued.{row_wide, set_row_there, values_row_room, values_rows_none, values_rows_more, values_rows_done}
 use Rattle.pairs.proofs.writing.write_values.Goals as goal
 
 pub loop-s-init : goal.loop-s-init

@@ -1,7 +1,4 @@
-use Rattle.std.proofs.Common.{rules}
-use Prim.Native.Nat.{◌-◌}
-use native.Mathlib.Omega.{arith}
-use Rattle.pairs.proofs.Tallying.{VerdictsTo, verdicts_none, verdicts_more, verdicts_done}
+use Rattle.pairs.proofs.Tallying.{verdicts_none, verdicts_more, verdicts_done}
 use Rattle.pairs.proofs.writing.write_verdicts.Goals as goal
 
 pub loop-i-init : goal.loop-i-init

@@ -1,7 +1,6 @@
 -- `pairs::writing::write_verdicts` meets its contract. The invariant: the verdicts of the targets below i are put. Assumes nothing.
 use Prim.Native.Nat.{◌-◌}
-use native.Mathlib.Omega.{arith}
-use Rattle.pairs.proofs.Tallying.{VerdictsTo, verdicts_none, verdicts_more, verdicts_done}
+use Rattle.pairs.proofs.Tallying.{VerdictsTo}
 use Rattle.pairs.proofs.writing.write_verdicts.Given as goal
 
 abbrev pub invariant-loop-i : goal.invariant-loop-i

@@ -1,0 +1,13 @@
+-- `adding::candidates::first_unknown` meets its contract. The invariant: the candidates below i are known. Assumes nothing.
+use Prim.Native.Nat.{◌-◌}
+use native.Mathlib.Omega.{arith}
+use mathlib.Core.Path.{◌∙◌}
+use Rattle.semantics.proofs.Refusing.{Well, well_none, well_more, well_first, well_all}
+use Rattle.adding.specs.Candidates.{unknown_at}
+use Rattle.adding.proofs.candidates.first_unknown.Given as goal
+
+abbrev pub invariant-loop-i : goal.invariant-loop-i
+invariant-loop-i l = Well (unknown_at l.list l.nodes) l.i
+
+abbrev pub decreases-loop-i : goal.decreases-loop-i
+decreases-loop-i l = l.count - l.i

@@ -1,0 +1,11 @@
+-- `adding::choosing::lay_edges` meets its contract. The invariant: the edges below i are there. Assumes nothing.
+use Prim.Native.Nat.{◌-◌}
+use native.Mathlib.Omega.{arith}
+use Rattle.adding.proofs.Chosen.{LayingEdges, edges_none, edges_more, edges_room, edges_done}
+use Rattle.adding.proofs.choosing.lay_edges.Given as goal
+
+abbrev pub invariant-loop-i : goal.invariant-loop-i
+invariant-loop-i l = LayingEdges l.edges l.slice l.n l.chosen l.initial.rows l.i l.rows
+
+abbrev pub decreases-loop-i : goal.decreases-loop-i
+decreases-loop-i l = l.edges - l.i

@@ -1,0 +1,14 @@
+-- `adding::fewest::sliced_key` meets its contract: the slice has the same first key. Assumes nothing.
+use Rattle.std.proofs.Common.{rules}
+use Rattle.adding.proofs.Slices.{case_shapes}
+use Rattle.adding.proofs.Slices.{searchable_slice, sliced_key}
+use Rattle.adding.proofs.fewest.sliced_key.Goals as goal
+
+pub reached-set-requires : goal.reached-set-requires
+reached-set-requires c = (search case_shapes, search)
+
+pub search-requires : goal.search-requires
+search-requires c = search searchable_slice
+
+pub returns : goal.returns
+returns c = search sliced_key

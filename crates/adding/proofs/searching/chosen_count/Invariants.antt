@@ -1,0 +1,11 @@
+-- `adding::searching::chosen_count` meets its contract. The invariant: n of the candidates below i are chosen. Assumes nothing.
+use Prim.Native.Nat.{◌-◌}
+use native.Mathlib.Omega.{arith}
+use Rattle.adding.proofs.Keyed.{BitsTo, bits_none, bits_room, bits_more, bits_done}
+use Rattle.adding.proofs.searching.chosen_count.Given as goal
+
+abbrev pub invariant-loop-i : goal.invariant-loop-i
+invariant-loop-i l = BitsTo l.candidates l.selection l.i l.n
+
+abbrev pub decreases-loop-i : goal.decreases-loop-i
+decreases-loop-i l = l.candidates - l.i
