@@ -10,9 +10,6 @@ use Rattle.adding.proofs.choosing.choose.Goals as goal
 pub loop-i-init : goal.loop-i-init
 loop-i-init c = (search chosen_none, refl)
 
-pub choose_if-n-requires : goal.choose_if-n-requires
-choose_if-n-requires c = (search, (omega arith, omega arith))
-
 pub loop-i-preserved : goal.loop-i-preserved
 loop-i-preserved c = (search, search rules)
 

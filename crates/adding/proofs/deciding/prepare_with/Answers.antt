@@ -3,9 +3,6 @@ use Rattle.std.proofs.Common.{rules}
 use Rattle.adding.proofs.Verdicts.{case_asked, room_asked, held_asked, laid_asked, prepares_asked}
 use Rattle.adding.proofs.deciding.prepare_with.Goals as goal
 
-pub rows_with-counts-requires : goal.rows_with-counts-requires
-rows_with-counts-requires c = (search, (search, (search, search)))
-
 pub lay_sets-requires-clause-case_in : goal.lay_sets-requires-clause-case_in
 lay_sets-requires-clause-case_in c = search case_asked
 

@@ -6,8 +6,8 @@ use Rattle.adding.proofs.fewest.fewest_edges.Goals as goal
 pub returns-then-refusal-ne0 : goal.returns-then-refusal-ne0
 returns-then-refusal-ne0 c = search fewest_refused
 
-pub target_in-pair-requires : goal.target_in-pair-requires
-target_in-pair-requires c = (search rules, search target_low)
+pub target_in-pair-requires-clause-i_bound : goal.target_in-pair-requires-clause-i_bound
+target_in-pair-requires-clause-i_bound c = search target_low
 
 pub sliced_key-key-requires : goal.sliced_key-key-requires
 sliced_key-key-requires c = search searchable

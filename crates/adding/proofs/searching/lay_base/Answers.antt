@@ -4,8 +4,8 @@ use Rattle.fillers.proofs.Turning.{converse_none_held}
 use Rattle.adding.proofs.Starting.{base_laid}
 use Rattle.adding.proofs.searching.lay_base.Goals as goal
 
-pub lay_sets-made-requires : goal.lay_sets-made-requires
-lay_sets-made-requires c = (search, (search, search converse_none_held))
+pub lay_sets-made-requires-clause-converse_held : goal.lay_sets-made-requires-clause-converse_held
+lay_sets-made-requires-clause-converse_held c = search converse_none_held
 
 pub returns : goal.returns
 returns c = search base_laid

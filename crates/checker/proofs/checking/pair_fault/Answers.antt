@@ -3,8 +3,8 @@ use Rattle.std.proofs.Common.{rules}
 use Rattle.checker.proofs.Checked.{supported_few, pairs_checked}
 use Rattle.checker.proofs.checking.pair_fault.Goals as goal
 
-pub level_fault-unjustified-requires : goal.level_fault-unjustified-requires
-level_fault-unjustified-requires c = (search, (search rules, (search rules, (search, search supported_few))))
+pub level_fault-unjustified-requires-clause-pairs_bound : goal.level_fault-unjustified-requires-clause-pairs_bound
+level_fault-unjustified-requires-clause-pairs_bound c = search supported_few
 
 pub returns : goal.returns
 returns c = search pairs_checked

@@ -10,8 +10,11 @@ digits_over-requires-clause-block c = search (block_named, all_path_named)
 pub digits_over-requires-clause-level_row : goal.digits_over-requires-clause-level_row
 digits_over-requires-clause-level_row c = search (level_row, all_known)
 
-pub digits_over-requires-in-AtLeast : goal.digits_over-requires-in-AtLeast
-digits_over-requires-in-AtLeast c = (search (block_named, least_path_named), (search (level_row, least_known), search rules))
+pub digits_over-requires-in-AtLeast-clause-block : goal.digits_over-requires-in-AtLeast-clause-block
+digits_over-requires-in-AtLeast-clause-block c = search (block_named, least_path_named)
+
+pub digits_over-requires-in-AtLeast-clause-level_row : goal.digits_over-requires-in-AtLeast-clause-level_row
+digits_over-requires-in-AtLeast-clause-level_row c = search (level_row, least_known)
 
 pub returns-in-Top : goal.returns-in-Top
 returns-in-Top c = digits_unused _

@@ -19,9 +19,6 @@ is_member-requires-2-clause-has_row c = search set_row
 pub is_member-requires-2-clause-b_bound : goal.is_member-requires-2-clause-b_bound
 is_member-requires-2-clause-b_bound c = search node_in_words
 
-pub suffices-requires-then-is_member-2 : goal.suffices-requires-then-is_member-2
-suffices-requires-then-is_member-2 c = (search, (search, (search, search)))
-
 pub returns-then-is_member-2 : goal.returns-then-is_member-2
 returns-then-is_member-2 c = search justified_open
 

@@ -11,8 +11,8 @@ loop-s-init c = search justified_rows_none
 pub ruled_in-of-requires : goal.ruled_in-of-requires
 ruled_in-of-requires c = search shape_row_there
 
-pub unjustified_shape-fault-requires : goal.unjustified_shape-fault-requires
-unjustified_shape-fault-requires c = (search levels_read, (search, search))
+pub unjustified_shape-fault-requires-clause-levels_read : goal.unjustified_shape-fault-requires-clause-levels_read
+unjustified_shape-fault-requires-clause-levels_read c = search levels_read
 
 pub returns-then-fault-ne0 : goal.returns-then-fault-ne0
 returns-then-fault-ne0 c = search justified_rows_first

@@ -12,8 +12,8 @@ use Rattle.justifying.proofs.justification.support_below.Goals as goal
 pub is_lower-requires-clause-level_row : goal.is_lower-requires-clause-level_row
 is_lower-requires-clause-level_row c = search (level_row, and_first_known)
 
-pub is_lower-requires-then-is_lower : goal.is_lower-requires-then-is_lower
-is_lower-requires-then-is_lower c = (search (level_row, and_second_known), search)
+pub is_lower-requires-then-is_lower-clause-level_row : goal.is_lower-requires-then-is_lower-clause-level_row
+is_lower-requires-then-is_lower-clause-level_row c = search (level_row, and_second_known)
 
 pub is_low_member-requires-clause-has_row : goal.is_low_member-requires-clause-has_row
 is_low_member-requires-clause-has_row c = search (set_row, or_first_known)
@@ -24,8 +24,14 @@ is_low_member-requires-clause-level_row c = search (level_row, or_first_known)
 pub is_low_member-requires-clause-nodes_bound : goal.is_low_member-requires-clause-nodes_bound
 is_low_member-requires-clause-nodes_bound c = search size_wide
 
-pub is_low_member-requires-else-is_low_member : goal.is_low_member-requires-else-is_low_member
-is_low_member-requires-else-is_low_member c = (search (set_row, or_second_known), (search (level_row, or_second_known), (search size_wide, search)))
+pub is_low_member-requires-else-is_low_member-clause-has_row : goal.is_low_member-requires-else-is_low_member-clause-has_row
+is_low_member-requires-else-is_low_member-clause-has_row c = search (set_row, or_second_known)
+
+pub is_low_member-requires-else-is_low_member-clause-level_row : goal.is_low_member-requires-else-is_low_member-clause-level_row
+is_low_member-requires-else-is_low_member-clause-level_row c = search (level_row, or_second_known)
+
+pub is_low_member-requires-else-is_low_member-clause-nodes_bound : goal.is_low_member-requires-else-is_low_member-clause-nodes_bound
+is_low_member-requires-else-is_low_member-clause-nodes_bound c = search size_wide
 
 pub filler_row-row-requires : goal.filler_row-row-requires
 filler_row-row-requires c = search (filler_row_small, all_path_named, arith)

@@ -16,8 +16,8 @@ loop-k-init c = justified_none
 pub overflow_sub-a : goal.overflow_sub-a
 overflow_sub-a c = c.loop-k.invariant.from
 
-pub is_justified-justified-requires : goal.is_justified-justified-requires
-is_justified-justified-requires c = (search, (search, (search, (search, search justified_node))))
+pub is_justified-justified-requires-clause-a_lt_nodes : goal.is_justified-justified-requires-clause-a_lt_nodes
+is_justified-justified-requires-clause-a_lt_nodes c = search justified_node
 
 pub returns-then-fault-ne0 : goal.returns-then-fault-ne0
 returns-then-fault-ne0 c = search justified_first

@@ -3,5 +3,5 @@ use Rattle.std.proofs.Common.{rules}
 use Rattle.justifying.proofs.Justified.{digits_room}
 use Rattle.justifying.proofs.justification.unjustified_shape.Goals as goal
 
-pub digits_for-used-requires : goal.digits_for-used-requires
-digits_for-used-requires c = (search, search digits_room)
+pub digits_for-used-requires-clause-words_in_bounds : goal.digits_for-used-requires-clause-words_in_bounds
+digits_for-used-requires-clause-words_in_bounds c = search digits_room

@@ -1,7 +1,5 @@
-use Rattle.std.proofs.Common.{rules}
-use Prim.Native.Nat.{◌-◌}
 use native.Mathlib.Omega.{arith}
-use Rattle.parts.proofs.Renumbering.{Expanding, expanding_none, expanding_full, expanding_more, expanding_done}
+use Rattle.parts.proofs.Renumbering.{expanding_none, expanding_full, expanding_more, expanding_done}
 use Rattle.parts.proofs.expanding.expand.Goals as goal
 
 pub loop-i-init : goal.loop-i-init
@@ -10,7 +8,7 @@ loop-i-init c = search expanding_none
 pub source_row-row-requires : goal.source_row-row-requires
 source_row-row-requires c =
     let e = c.loop-i.invariant in
-    (expanding_full e, (omega (arith, e.room), omega (arith, e.room)))
+    record { full = expanding_full e; i_bound = omega (arith, e.room); i_in_bounds = omega (arith, e.room) }
 
 pub put_row-requires : goal.put_row-requires
 put_row-requires c = omega (arith, c.loop-i.invariant.room, expanding_full c.loop-i.invariant)

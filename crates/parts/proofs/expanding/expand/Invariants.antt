@@ -1,8 +1,7 @@
 -- `parts::expanding::expand` meets its contract. The loop's invariant: the first i shapes have their rows (`Expanding`). The measure is what is
 -- left of the shapes. Assumes nothing.
 use Prim.Native.Nat.{◌-◌}
-use native.Mathlib.Omega.{arith}
-use Rattle.parts.proofs.Renumbering.{Expanding, expanding_none, expanding_full, expanding_more, expanding_done}
+use Rattle.parts.proofs.Renumbering.{Expanding}
 use Rattle.parts.proofs.expanding.expand.Given as goal
 
 abbrev pub invariant-loop-i : goal.invariant-loop-i

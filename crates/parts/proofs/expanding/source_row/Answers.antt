@@ -1,5 +1,4 @@
 -- `parts::expanding::source_row` meets its contract. Assumes nothing.
-use Rattle.std.proofs.Common.{rules}
 use Rattle.parts.specs.Expanding.{source_row}
 use borrow.Author.Tests.{lt-ltb, le-ltb}
 use Rattle.parts.proofs.expanding.source_row.Goals as goal

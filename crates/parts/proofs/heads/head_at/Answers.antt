@@ -1,5 +1,4 @@
 -- `parts::heads::head_at` meets its contract: 3, 1 and 3 by the tests on the way, then by the kind. Assumes nothing.
-use Rattle.std.proofs.Common.{rules}
 use Rattle.parts.proofs.Opens.{head_empty, head_unknown, head_cut, head_name, head_most, head_rule}
 use Rattle.parts.proofs.heads.head_at.Goals as goal
 

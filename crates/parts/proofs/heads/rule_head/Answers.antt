@@ -1,5 +1,5 @@
 -- `parts::heads::rule_head` meets its contract: the first test that fails decides. Assumes nothing.
-use Rattle.std.proofs.Common.{rules, ap, not}
+use Rattle.std.proofs.Common.{ap, not}
 use Rattle.cases.specs.Parts.{rule_head}
 use Rattle.cases.proofs.Formats.{passed, failed}
 use mathlib.Core.Path.{◌∙◌}

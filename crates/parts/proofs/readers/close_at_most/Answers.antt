@@ -1,5 +1,4 @@
 -- `parts::readers::close_at_most` meets its contract: a refusal leaves the table, else its row is put there. Assumes nothing.
-use Rattle.std.proofs.Common.{rules}
 use Rattle.parts.proofs.readers.close_at_most.Goals as goal
 
 pub returns-in-Refused-clause-value : goal.returns-in-Refused-clause-value

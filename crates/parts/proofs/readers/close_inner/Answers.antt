@@ -1,5 +1,4 @@
 -- `parts::readers::close_inner` meets its contract: a rule is put into its row, all else leaves the table. Assumes nothing.
-use Rattle.std.proofs.Common.{rules}
 use Rattle.parts.proofs.readers.close_inner.Goals as goal
 
 pub returns-in-Refused-clause-value : goal.returns-in-Refused-clause-value

@@ -1,5 +1,4 @@
 -- `parts::readers::joining` meets its contract: each arm answers as the definition does for that variant. Assumes nothing.
-use Rattle.std.proofs.Common.{rules}
 use Rattle.parts.proofs.readers.joining.Goals as goal
 
 pub returns-in-Refused : goal.returns-in-Refused

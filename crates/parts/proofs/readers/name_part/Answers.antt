@@ -1,5 +1,4 @@
 -- `parts::readers::name_part` meets its contract: the shape is noted at the command's place. Assumes nothing.
-use Rattle.std.proofs.Common.{rules}
 use Rattle.parts.proofs.readers.name_part.Goals as goal
 
 pub returns : goal.returns

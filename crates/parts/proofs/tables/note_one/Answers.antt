@@ -1,5 +1,4 @@
 -- `parts::tables::note_one` meets its contract: two stores. Assumes nothing.
-use Rattle.std.proofs.Common.{rules}
 use Rattle.parts.proofs.Notes.{noted_one}
 use Rattle.cases.proofs.PutRows.{two}
 use lib.ListN.{length-set}

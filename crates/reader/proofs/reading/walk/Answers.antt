@@ -24,7 +24,7 @@ shape_of-rows-in_default c = c.loop-at.invariant.1
 pub returns-in_default : goal.returns-in_default
 returns-in_default c =
     going_refused c.loop-at.invariant.0 c.loop-at-test.true c.find-finding.ensures refl c.in_default.is
-    c.number_of_lem.ensures c.refused.ensures
+    c.number_of.ensures c.refused.ensures
 
 pub overflow_add-at : goal.overflow_add-at
 overflow_add-at c = omega (arith, c.loop-at-test.true, c.well_formed)

@@ -58,8 +58,14 @@ count_common-requires-clause-w_bound c = search words_few
 pub returns-then-least-count_common : goal.returns-then-least-count_common
 returns-then-least-count_common c = search gives_least_valid
 
-pub count_common-requires-in-AtLeast : goal.count_common-requires-in-AtLeast
-count_common-requires-in-AtLeast c = (search (filler_row_there, least_path_named), (search (set_row, least_known), search words_few))
+pub count_common-requires-in-AtLeast-clause-has_row : goal.count_common-requires-in-AtLeast-clause-has_row
+count_common-requires-in-AtLeast-clause-has_row c = search (filler_row_there, least_path_named)
+
+pub count_common-requires-in-AtLeast-clause-has_row_2 : goal.count_common-requires-in-AtLeast-clause-has_row_2
+count_common-requires-in-AtLeast-clause-has_row_2 c = search (set_row, least_known)
+
+pub count_common-requires-in-AtLeast-clause-w_bound : goal.count_common-requires-in-AtLeast-clause-w_bound
+count_common-requires-in-AtLeast-clause-w_bound c = search words_few
 
 pub returns-in-Top : goal.returns-in-Top
 returns-in-Top c = search gives_top
