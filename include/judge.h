@@ -1,7 +1,7 @@
 /* The cabinet judge: reads a case, solves it at once or round by round, totals it node by node, finds the fewest edges that make a target
  * sure, checks proposals by the newer code and by the old one, and ranks shapes by denial.
  *
- * Link with libjudge.a, which `rt staticlib judge` writes to target/staticlib/ (x86-64 Linux). The library keeps no state, allocates
+ * Link with libjudge.a, which `scripts/library` writes to target/staticlib/ (x86-64 Linux). The library keeps no state, allocates
  * nothing and calls nothing: any number of threads may call it at once, each on its own tables. How much stack each call needs is
  * said below (JUDGE_READ_STACK and the others).
  *

@@ -1,8 +1,7 @@
-// The judge's entry points: solving, checking, also under the old code, ranking and totals by fitting, one equation each (reading is `reader::reading::read`); and the exports for C.
+// The judge's entry points: solving, checking, also under the old code, ranking and totals by fitting, one equation each (reading is `reader::reading::read`).
 #![tactic(auto)]
 
 pub mod checking;
-pub mod exports;
 pub mod ranking;
 pub mod solving;
 pub mod supporting;

@@ -4,57 +4,55 @@
 mod calls;
 mod text;
 
-use bytes::scan::find;
 use calls::{answer, misread, print};
-use check::same;
-use libc::STDIN_FILENO;
+use std::io;
+use std::io::Read as _;
 use text::{NONE, before, behind, fill};
 
 // The length of the case: a line that reads sets it anew.
 fn next_case(line: &[u8], case: &mut [u8; 8192], n: usize) -> usize {
-    if same(before(line, b' '), b"read") {
+    if before(line, b' ') == b"read".as_slice() {
         return fill(behind(line, b':'), case);
     }
     n
 }
 
 // Answers the call of a line on the first n bytes of the case.
-fn answer_line(line: &[u8], case: &[u8; 8192], n: usize) {
+fn answer_line(rt: &impl Print, line: &[u8], case: &[u8; 8192], n: usize) -> io::Result<()> {
     let case = &case[..];
     let call = before(line, b' ');
-    if same(call, b"#") {
-        return;
+    if call == b"#".as_slice() {
+        return Ok(());
     }
     let title = before(line, b':');
-    print(title);
-    print(b":");
+    print(rt, title)?;
+    print(rt, b":")?;
     if n > case.len() {
-        misread();
+        misread(rt)?;
     } else {
-        answer(call, title, &case[0..n], behind(line, b':'));
+        answer(rt, call, title, &case[0..n], behind(line, b':'))?;
     }
-    print(b"\n");
+    print(rt, b"\n")
 }
 
 // Line by line, with no case at first.
-fn run(input: &[u8]) {
+fn run(rt: &impl Print, input: &[u8]) -> io::Result<()> {
     let mut case = [0u8; 8192];
     let mut n = NONE;
-    let mut at = 0;
-    while at < input.len() {
-        let end = find(input, at, input.len(), b'\n');
-        let line = &input[at..end];
+    for ended in input.split_inclusive(|b| *b == b'\n') {
+        let line = before(ended, b'\n');
         n = next_case(line, &mut case, n);
-        answer_line(line, &case, n);
-        at = end + 1;
+        answer_line(rt, line, &case, n)?;
     }
+    Ok(())
 }
 
-fn main() {
-    let mut input = [0u8; 16384];
-    let n = io::read_full(STDIN_FILENO, &mut input);
-    run(&input[..n]);
-    if n == 16384 {
-        print(b"input too long\n");
+fn main(rt: HostRuntime) -> io::Result<()> {
+    let mut input = Vec::new(rt.alloc());
+    rt.stdin().take(16384).read_to_end(&mut input)?;
+    run(&rt, input.as_slice())?;
+    if input.len() == 16384 {
+        print(&rt, b"input too long\n")?;
     }
+    Ok(())
 }

@@ -1,7 +1,5 @@
 // Reading a line: its words, numbers in decimal, and tables of bytes in hexadecimal.
-ghost use Rattle.std.specs.Prelude.{◌-◌, ◌≤◌, length};
-
-use bytes::scan::find;
+ghost use Rattle.std.specs.Prelude.{◌≡◌, ℕ, ◌-◌, ◌<◌, ◌≤◌, ◌≢◌, length, slice_index};
 
 // The bytes that a table has room for, and a length that no table has: what stands for a text that is no table.
 const ROOM: usize = 8192;
@@ -15,17 +13,30 @@ pub enum Number {
     Unread,
 }
 
+// Where the first such mark stands, the text's length where there is none.
+fn find(text: &[u8], mark: u8) -> usize
+    ensures in_bounds { result ≤ length text.now }
+    ensures none_before { (k : ℕ) → k < result → slice_index text.now k ≢ mark }
+    ensures mark_there { result < length text.now → slice_index text.now result ≡ mark }
+{
+    for (i, b) in text.iter().enumerate() {
+        if *b == mark {
+            return i;
+        }
+    }
+    text.len()
+}
+
 // What stands before the first such mark, all where there is none.
 pub fn before(text: &[u8], mark: u8) -> &[u8] {
-    let end = find(text, 0, text.len(), mark);
-    &text[0..end]
+    &text[..find(text, mark)]
 }
 
 // What stands behind it, nothing where there is none.
 pub fn behind(text: &[u8], mark: u8) -> &[u8]
     ensures { length result.now ≤ length text.now - 1 }
 {
-    let end = find(text, 0, text.len(), mark);
+    let end = find(text, mark);
     if end == text.len() {
         return &text[end..];
     }
@@ -62,10 +73,8 @@ pub fn decimal(text: &[u8]) -> Number {
         return Number::Unread;
     }
     let mut number = Number::Is(0);
-    let mut i = 0;
-    while i < text.len() {
-        number = longer(number, text[i]);
-        i += 1;
+    for b in text {
+        number = longer(number, *b);
     }
     number
 }
@@ -99,10 +108,8 @@ fn put_bytes(text: &[u8], table: &mut [u8; 8192], n: usize) -> usize {
         return NONE;
     }
     let mut end = n;
-    let mut i = 0;
-    while i + 1 < text.len() {
-        end = put_byte(table, end, digit(text[i]), digit(text[i + 1]));
-        i += 2;
+    for pair in text.chunks_exact(2) {
+        end = put_byte(table, end, digit(pair[0]), digit(pair[1]));
     }
     end
 }
@@ -110,10 +117,8 @@ fn put_bytes(text: &[u8], table: &mut [u8; 8192], n: usize) -> usize {
 // These bytes so many times.
 fn repeat(times: usize, text: &[u8], table: &mut [u8; 8192], n: usize) -> usize {
     let mut end = n;
-    let mut i = 0;
-    while i < times {
+    for _ in 0..times {
         end = put_bytes(text, table, end);
-        i += 1;
     }
     end
 }
@@ -134,11 +139,8 @@ fn put_word(word: &[u8], table: &mut [u8; 8192], n: usize) -> usize {
 // Puts all words of a text into the table, and answers how many bytes there are.
 pub fn fill(text: &[u8], table: &mut [u8; 8192]) -> usize {
     let mut n = 0;
-    let mut at = 0;
-    while at < text.len() {
-        let end = find(text, at, text.len(), b' ');
-        n = put_word(&text[at..end], table, n);
-        at = end + 1;
+    for word in text.split(|b| *b == b' ') {
+        n = put_word(word, table, n);
     }
     n
 }

@@ -3,7 +3,6 @@ ghost use Rattle.std.specs.Prelude.{◌≡◌, ◌≤◌, length};
 ghost use Rattle.cases.specs.Reading.{reading};
 ghost use Rattle.semantics.specs.Unfinished.{begun, first_state_with, first_state, held_input};
 
-use bytes::copy;
 use cases::answers::Reading;
 use reader::reading::read;
 use semantics::ongoing::{Begun, Unfinished};
@@ -14,7 +13,7 @@ fn open_input(input: &[u8], pairs: usize) -> Unfinished
     ensures { result ≡ first_state_with input.now pairs }
 {
     let mut held = [0u8; 8192];
-    copy(input, &mut held);
+    held[..input.len()].copy_from_slice(input);
     Unfinished {
         bytes: held,
         length: input.len(),

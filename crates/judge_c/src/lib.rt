@@ -1,4 +1,6 @@
-// The exports for C, thin over the entry points. A slice passes as a pointer and a length, an answer as a struct by value.
+// The judge's exports for C, thin over the entry points. A slice passes as a pointer and a length, an answer as a struct by value.
+#![tactic(auto)]
+
 ghost use Rattle.std.specs.Prelude.{◌≡◌};
 ghost use Rattle.cases.specs.Reading.{reading};
 ghost use Rattle.semantics.specs.Adding.{fewest_answer};
@@ -8,9 +10,9 @@ ghost use Rattle.semantics.specs.Totals.{totals_answer};
 ghost use Rattle.semantics.specs.Unfinished.{begun, advance_answer, asked};
 ghost use Rattle.judge.specs.Equations.{SolvedAs, NumberedAs, CaseRanked};
 
-use crate::{checking, ranking, solving, supporting, totalling};
 use adding::fewest;
 use cases::answers::Reading;
+use judge::{checking, ranking, solving, supporting, totalling};
 use reader::reading::read;
 use semantics::answers::{Checked, CheckedOld, Fewest, Ranked, Solution, Totals};
 use semantics::ongoing::{Advanced, Begun, Reply, Unfinished};
