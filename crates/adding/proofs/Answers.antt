@@ -24,7 +24,8 @@ use Rattle.fixpoint.specs.Lists.{up_to, all, first_from}
 use Rattle.fixpoint.proofs.Lists.{by_test, all_in, length_made, get_d_made, get_d_map}
 use Rattle.reader.specs.Parsing.{ParsedAs}
 use Rattle.semantics.specs.declared.answers.Fewest.{Fewest}
-use Rattle.semantics.specs.Adding.{candidate_at, candidate_count, candidate_known, list_fits, chosen, chosen_count, with_links, verdict_with, is_sure_by, fewest_key, key_count, key_size, key_selection}
+use Rattle.semantics.specs.Adding.{candidate_at, candidate_count, candidate_known, list_fits, chosen, chosen_count, with_links}
+use Rattle.semantics.specs.Adding.{verdict_with, is_sure_by, fewest_key, key_count, key_size, key_selection}
 use Rattle.semantics.specs.Adding.{fewest_fault, fewest_refusal, fewest, fewest_answer}
 use Rattle.semantics.specs.Answered.{fewest_by}
 use Rattle.semantics.specs.Operations.{or_else, first_of, refuse_unless, counted, case_of}

@@ -38,7 +38,8 @@ use Rattle.parts.specs.Tables.{rules_in, NoteRoom, Noted}
 use Rattle.parts.proofs.Stores.{length_rules_in}
 use Rattle.finding.specs.declared.commands.Finding.{Finding}
 use Rattle.finding.specs.declared.commands.Reached.{Reached}
-use Rattle.finding.specs.Finding.{refused_finding, part_finding, is_beyond, with_room, is_unlaid, with_edge, PlainRoom, FindRoom, Stands, entry_command, entry_inside, entry_names, is_shape, is_shape_entry}
+use Rattle.finding.specs.Finding.{refused_finding, part_finding, is_beyond, with_room, is_unlaid, with_edge, PlainRoom, FindRoom}
+use Rattle.finding.specs.Finding.{Stands, entry_command, entry_inside, entry_names, is_shape, is_shape_entry}
 use Rattle.finding.specs.Finding.{says, StepIs, FindingIs, PlainAs, NestedAs, RoomyAs, FoundAs}
 
 -- ---- A refusal leaves the tables

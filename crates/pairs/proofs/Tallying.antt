@@ -57,8 +57,8 @@ module _ {counts : Counts} {rows : List ℕ} {i : ℕ} (r : CaseIn counts rows) 
     pub target_pair_in : (values : List ℕ) → counts.shapes * counts.nodes ≤ length values → target.shape.0 * counts.nodes + target.node.0 < length values
     target_pair_in values room = omega (arith, pair_is, pair_below)
 
-    pub pair_value : (values : List ℕ) → get_or values (target.shape.0 * counts.nodes + target.node.0) 0 ≡ get_or values (target_pair counts rows i) 0
-    pair_value values = rw pair_is
+    pub target_pair_value : (values : List ℕ) → get_or values (target.shape.0 * counts.nodes + target.node.0) 0 ≡ get_or values (target_pair counts rows i) 0
+    target_pair_value values = rw pair_is
 
 -- The value of target i
 abbrev pub verdict_at : Counts → List ℕ → List ℕ → ℕ → ℕ

@@ -26,7 +26,8 @@ use Rattle.cases.specs.declared.counts.Counts.{Counts}
 use Rattle.cases.specs.Case.{Case, empty_case, counts_of}
 use Rattle.cases.specs.Faults.{within_limit}
 use Rattle.cases.specs.Parts.{Part, Named, Plain, Around, Joining, names, size, inner_size, rule, rules, fresh_rules, fresh_count, expansion}
-use Rattle.cases.specs.Reading.{heading_of, heading_number, number_of, no_refusal, Note, Progress, start, counts_so_far, add, shapes_named, named_at, Entry, Shape, Other, pass, Found, Fault, Good, found_at}
+use Rattle.cases.specs.Reading.{heading_of, heading_number, number_of, no_refusal, Note, Progress, start, counts_so_far, add}
+use Rattle.cases.specs.Reading.{shapes_named, named_at, Entry, Shape, Other, pass, Found, Fault, Good, found_at}
 use Rattle.cases.specs.Reading.{unknown_shape, after_end, refused, finish, is_end, is_end_entry, stepped, walk, walked_from, walked, Outcome, expanded, outcome, reading}
 use Rattle.cases.specs.Rows.{edge_in, case_in, Full}
 use Rattle.cases.proofs.Expansion.{length_rules, length_fresh_rules, length_expansion, fresh_count_more, rules_more, fresh_rules_more}

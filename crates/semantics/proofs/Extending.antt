@@ -22,7 +22,7 @@ use Rattle.cases.specs.Parts.{Part, Named, Plain, Around, Joining, names, filled
 use Rattle.cases.proofs.Expansion.{length_expansion, below, names_both}
 use Rattle.semantics.specs.Nested.{part_value, opens, opens_inside, deeper, Obeying, written_values, Extends, ExtendsOnce}
 use Rattle.semantics.specs.Values.{pair_count, pair_of, shape_of, node_of, entry_at, is_value, valued, supported_at, supported}
-use Rattle.semantics.proofs.Kernel.{first_of}
+use Rattle.semantics.proofs.Kernel.{first_among}
 use Rattle.semantics.proofs.Nesting.{rule_agrees, length_deeper, supported_said, said_supported, part_means}
 use Rattle.semantics.proofs.Pairs.{pair_below, node_below, shape_of_pair, node_of_pair}
 use Rattle.semantics.proofs.Thresholds.{value_at_most}
@@ -72,7 +72,7 @@ module _ (c : Case) where
   part_agrees : (w : ℕ) (u v : ℕ → ℕ → ℕ) → ((s b : ℕ) → s < w → b < c.nodes → u s b ≡ v s b) → (x : Part) → below w (names x) ≡ true
       → (a : ℕ) → a < c.nodes → part_value c u x a ≡ part_value c v x a
   unfolding part_value names
-  part_agrees w u v e (Named s) k a h = e s a (below_at w (s ∷ []) k s (first_of s [])) h
+  part_agrees w u v e (Named s) k a h = e s a (below_at w (s ∷ []) k s (first_among s [])) h
   part_agrees w u v e (Plain r) k a h = rule_agrees c u v r a h (λ s b i. e s b (below_at w (references r) k s i))
   part_agrees w u v e (Around r x) k a h = rule_agrees c _ _ r a h (λ s b i. part_agrees w u v e x k b)
   part_agrees w u v e (Joining r x y) k a h =

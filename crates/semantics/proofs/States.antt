@@ -10,9 +10,9 @@ unfolding advanced
 before_end u h = rw (eq-eqb u.over 0 h)
 
 -- "one after it alters nothing"
-pub after_end : (u : Unfinished) → (u.over ≡ 0 → ⊥) → advanced u ≡ u
+pub rests_after_end : (u : Unfinished) → (u.over ≡ 0 → ⊥) → advanced u ≡ u
 unfolding advanced
-after_end u h = rw (ne_eqb u.over 0 h)
+rests_after_end u h = rw (ne_eqb u.over 0 h)
 
 -- "21 pair not below the pair count, place the pair, the only check of a question"
 pub asked_beyond : (u : Unfinished) (k : ℕ) → u.pairs ≤ k → asked u k ≡ record { number = 21; place = k; reply = 0 }

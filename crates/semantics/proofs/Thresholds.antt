@@ -20,7 +20,7 @@ use Rattle.semantics.specs.Paths.{fillers, same_fillers}
 use Rattle.semantics.specs.Values.{rule_value}
 use Rattle.semantics.specs.Levels.{rule_support, support_below}
 use Rattle.semantics.specs.Stability.{holds}
-use Rattle.semantics.proofs.Kernel.{fillers_pass, first_of, second_of}
+use Rattle.semantics.proofs.Kernel.{fillers_pass, first_among, second_of}
 
 -- the order of w and a value, for each way that a rule's value comes about; a not turns w into 3 - w
 leb_test : (b : Bool) (w : ℕ) → 1 ≤ w → w ≤ 2 → leb w (cond b 2 0) ≡ b
@@ -80,16 +80,16 @@ pub value_at_most : (c : Case) (v : ℕ → ℕ → ℕ) (r : ShapeRule) (a : �
 unfolding rule_value references
 value_at_most c v Top a ha small = omega arith
 value_at_most c v (Node b) a ha small = test_at_most (eqb b.0 a)
-value_at_most c v (And s t) a ha small = omega (arith, small s.0 a (first_of s.0 (t.0 ∷ [])) ha)
+value_at_most c v (And s t) a ha small = omega (arith, small s.0 a (first_among s.0 (t.0 ∷ [])) ha)
 value_at_most c v (Or s t) a ha small =
-    omega (arith, small s.0 a (first_of s.0 (t.0 ∷ [])) ha, small t.0 a (second_of s.0 t.0) ha)
+    omega (arith, small s.0 a (first_among s.0 (t.0 ∷ [])) ha, small t.0 a (second_of s.0 t.0) ha)
 value_at_most c v (Not s) a ha small = omega arith
 value_at_most c v (Same p q) a ha small = test_at_most (same_fillers c p.0 q.0 a)
 value_at_most c v (All p s) a ha small = smallest_at_most 2 (map (v s.0) (fillers c p.0 a))
 value_at_most c v (AtLeast n p s) a ha small =
     nth_largest_at_most n 2 (map (v s.0) (fillers c p.0 a))
     (all_map (v s.0) (fillers c p.0 a) (λ x. not (leb 3 x))
-    ∙ fillers_pass c p.0 a (λ b. not (leb 3 (v s.0 b))) (λ b h k. ap not (lt-leb 3 (v s.0 b) (omega (arith, small s.0 b (first_of s.0 []) h)))))
+    ∙ fillers_pass c p.0 a (λ b. not (leb 3 (v s.0 b))) (λ b h k. ap not (lt-leb 3 (v s.0 b) (omega (arith, small s.0 b (first_among s.0 []) h)))))
 
 -- the n-th smallest of what was kept is below k if n of the elements pass and are below k; for or (n = 1) and at least
 kept_below : (n k : ℕ) (l : List ℕ) (t : ℕ → Bool) (f : ℕ → ℕ) → 1 ≤ n → n ≤ count l t → ltb (nth_smallest n (map f (keep l t))) k ≡ leb n (count l (λ x. t x && ltb (f x) k))
@@ -109,7 +109,8 @@ eqb_at_most a w h =
 
 -- By cases on the rule, which holds with references read at least w: those parts of an or that are at least w are the ones of value w,
 -- since its parts are at most w, and at least n fillers are at least w, so that the n-th level is there.
-support_tests : (c : Case) (v l : ℕ → ℕ → ℕ) (r : ShapeRule) (a w L : ℕ) → shape_least_positive r ≡ true → rule_value c v r a ≡ w → holds c (λ s b. leb w (v s b)) (λ s b. leb (3 - w) (v s b)) r a ≡ true
+support_tests : (c : Case) (v l : ℕ → ℕ → ℕ) (r : ShapeRule) (a w L : ℕ) → shape_least_positive r ≡ true → rule_value c v r a ≡ w
+    → holds c (λ s b. leb w (v s b)) (λ s b. leb (3 - w) (v s b)) r a ≡ true
     → ltb (rule_support c v l w r a) (suc L) ≡ support_below c (λ s b. leb w (v s b)) l (suc L) r a
 unfolding rule_value rule_support holds support_below
 support_tests c v l Top a w L n e h = lt-ltb 0 (suc L) (omega arith)

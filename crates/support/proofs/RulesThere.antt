@@ -27,7 +27,7 @@ use Rattle.fillers.specs.NodeSets.{names_path}
 use Rattle.fillers.proofs.InTables.{path_named, block_there}
 use Rattle.relations.specs.Blocks.{Block}
 use Rattle.relations.proofs.Relations.{row_below}
-use Rattle.semantics.proofs.Kernel.{first_of, second_of}
+use Rattle.semantics.proofs.Kernel.{first_among, second_of}
 use Rattle.semantics.proofs.Pairs.{reference_below, least_positive_at}
 use Rattle.cases.specs.declared.ruled.Ruled.{Ruled}
 use Rattle.support.specs.Proposals.{Proposed}
@@ -70,7 +70,7 @@ module _ {counts : Counts} {rows sets : List ℕ} {of : Ruled} (i : RuleIn count
   module _ {s q : Shape} where
     pub and_first_known : of.rule ≡ And s q → s.0 < counts.shapes
     unfolding references
-    and_first_known e = shapes_known s.0 (rw e (first_of s.0 (q.0 ∷ [])))
+    and_first_known e = shapes_known s.0 (rw e (first_among s.0 (q.0 ∷ [])))
 
     pub and_second_known : of.rule ≡ And s q → q.0 < counts.shapes
     unfolding references
@@ -78,7 +78,7 @@ module _ {counts : Counts} {rows sets : List ℕ} {of : Ruled} (i : RuleIn count
 
     pub or_first_known : of.rule ≡ Or s q → s.0 < counts.shapes
     unfolding references
-    or_first_known e = shapes_known s.0 (rw e (first_of s.0 (q.0 ∷ [])))
+    or_first_known e = shapes_known s.0 (rw e (first_among s.0 (q.0 ∷ [])))
 
     pub or_second_known : of.rule ≡ Or s q → q.0 < counts.shapes
     unfolding references
@@ -87,15 +87,15 @@ module _ {counts : Counts} {rows sets : List ℕ} {of : Ruled} (i : RuleIn count
   module _ {s : Shape} where
     pub not_known : of.rule ≡ Not s → s.0 < counts.shapes
     unfolding references
-    not_known e = shapes_known s.0 (rw e (first_of s.0 []))
+    not_known e = shapes_known s.0 (rw e (first_among s.0 []))
 
     pub all_known : {p : Path} → of.rule ≡ All p s → s.0 < counts.shapes
     unfolding references
-    all_known e = shapes_known s.0 (rw e (first_of s.0 []))
+    all_known e = shapes_known s.0 (rw e (first_among s.0 []))
 
     pub least_known : {n : ℕ} {p : Path} → of.rule ≡ AtLeast n p s → s.0 < counts.shapes
     unfolding references
-    least_known e = shapes_known s.0 (rw e (first_of s.0 []))
+    least_known e = shapes_known s.0 (rw e (first_among s.0 []))
 
   -- a path that it names is one that a shape of the case names
   paths_named : (p : ℕ) → any (paths_of_shape of.rule) (λ q. eqb q p) ≡ true → names_path (case_in counts rows) p ≡ true
@@ -104,7 +104,7 @@ module _ {counts : Counts} {rows sets : List ℕ} {of : Ruled} (i : RuleIn count
   module _ {p : Path} where
     pub same_first_named : {q : Path} → of.rule ≡ Same p q → names_path (case_in counts rows) p.0 ≡ true
     unfolding paths_of_shape
-    same_first_named {q} e = paths_named p.0 (rw e (first_of p.0 (q.0 ∷ [])))
+    same_first_named {q} e = paths_named p.0 (rw e (first_among p.0 (q.0 ∷ [])))
 
     pub same_second_named : {q : Path} → of.rule ≡ Same q p → names_path (case_in counts rows) p.0 ≡ true
     unfolding paths_of_shape
@@ -112,11 +112,11 @@ module _ {counts : Counts} {rows sets : List ℕ} {of : Ruled} (i : RuleIn count
 
     pub all_path_named : {s : Shape} → of.rule ≡ All p s → names_path (case_in counts rows) p.0 ≡ true
     unfolding paths_of_shape
-    all_path_named e = paths_named p.0 (rw e (first_of p.0 []))
+    all_path_named e = paths_named p.0 (rw e (first_among p.0 []))
 
     pub least_path_named : {n : ℕ} {s : Shape} → of.rule ≡ AtLeast n p s → names_path (case_in counts rows) p.0 ≡ true
     unfolding paths_of_shape
-    least_path_named e = paths_named p.0 (rw e (first_of p.0 []))
+    least_path_named e = paths_named p.0 (rw e (first_among p.0 []))
 
   -- ---- Rows
 

@@ -27,7 +27,7 @@ use Rattle.semantics.proofs.Refusing.{zero_cases, or_else_next, or_else_this, un
 use Rattle.semantics.proofs.Solved.{valid_exactly}
 use Rattle.theorems.specs.Adding.{linked_case, SureWith, SomeSure, WellAsked, FirstUnknown}
 use Rattle.theorems.specs.Demands.{Reads}
-use Rattle.theorems.proofs.Demands.{case_sound, target_below, verdict_at}
+use Rattle.theorems.proofs.Demands.{case_sound, target_below, verdict_is_value}
 
 -- ---- Sure: the verdict of the case with the chosen edges, in the words of demand 3
 
@@ -39,7 +39,7 @@ module _ {s : List ℕ} {target : ℕ} {list : List ℕ} (asked : WellAsked s ta
   unfolding verdict_with with_links with_edges
   sure_with_exactly =
       let c = linked_case s list selection in
-      rw (verdict_at c target asked.target_known) (valid_exactly c _ (target_below c linked_sound target asked.target_known))
+      rw (verdict_is_value c target asked.target_known) (valid_exactly c _ (target_below c linked_sound target asked.target_known))
 
 -- ---- What is refused, and what then is known: each refusal with the tests that led to it
 

@@ -175,9 +175,9 @@ target_below c sound i h =
     rw (get_d_map (λ t. pair_of c t.shape.0 t.node.0) c.targets i nowhere 0 h)
     (pair_below c _ _ (ltb-true _ _ (all_in c.targets _ sound.targets_named i nowhere h)) (ltb-true _ _ (all_in c.targets _ sound.targets_known i nowhere h)))
 
-pub verdict_at : (c : Case) (i : ℕ) → i < length c.targets → get_or (verdicts c) i 0 ≡ get_or (solved_values c) (pair_of_target c i) 0
+pub verdict_is_value : (c : Case) (i : ℕ) → i < length c.targets → get_or (verdicts c) i 0 ≡ get_or (solved_values c) (pair_of_target c i) 0
 unfolding verdicts target_values
-verdict_at c i h =
+verdict_is_value c i h =
     get_d_map _ c.targets i nowhere 0 h
     ∙ ap (λ (k : ℕ). get_or (solved_values c) k 0) (sym (get_d_map (λ t. pair_of c t.shape.0 t.node.0) c.targets i nowhere 0 h))
 
@@ -194,7 +194,7 @@ module _ (s vt lt dt : List ℕ) (solved : SolvedCase s vt lt dt) where
   unfolding solve_verdicts solve_answer solution
   target_value i h =
       sym (written_at (solve_refusal s vt lt dt) (verdicts (case_of s)) dt solved.number_zero i (omega (arith, length_verdicts (case_of s)))
-      ∙ verdict_at (case_of s) i h)
+      ∙ verdict_is_value (case_of s) i h)
 
   pub solved_assignment_stable : StableAssignment (case_of s) (solve_values s vt lt dt)
   solved_assignment_stable = stable_agrees (case_of s) (solved_values (case_of s)) (solve_values s vt lt dt) value_at (solved_stable (case_of s))

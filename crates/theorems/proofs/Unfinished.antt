@@ -31,7 +31,7 @@ use Rattle.semantics.specs.Values.{pair_count}
 use Rattle.semantics.proofs.Kernel.{rule_system}
 use Rattle.semantics.proofs.Refusing.{zero_cases}
 use Rattle.semantics.proofs.Held.{copied_take, pairs_fit, empty_input_reads, reads_input, refused_input}
-use Rattle.semantics.proofs.States.{before_end, after_end, asked_within}
+use Rattle.semantics.proofs.States.{before_end, rests_after_end, asked_within}
 use Rattle.semantics.proofs.Rounds.{value_sure, settled_T, worked_P, next_T, last_round}
 use Rattle.semantics.proofs.Solved.{value_of, values_length, solved_length}
 use Rattle.theorems.specs.Demands.{Reads, SolvedCase}
@@ -154,7 +154,7 @@ module _ (s : List ℕ) (i : ℕ) (u : Unfinished) (h : AfterAdvances s i u) whe
   ended_after b =
       let c = held_by s in
       let over : u.over ≡ 1 = h.over ∙ rw (le-leb (rounds c) i b) in
-      rw (after_end u (λ z. omega arith))
+      rw (rests_after_end u (λ z. omega arith))
       (record {
         bytes = h.bytes;
         pairs = h.pairs;

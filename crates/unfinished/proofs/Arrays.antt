@@ -1,7 +1,7 @@
 -- The arrays of a state have the lengths of their type, whatever they hold. Assumes nothing.
-use mathlib.Core.Path.{◌≡◌, sym, ◌∙◌}
+use mathlib.Core.Path.{◌≡◌}
 use mathlib.Core.List.{List}
-use lib.ListN.{length, length-map}
+use lib.ListN.{length}
 use mir.Val.{Val}
 use denote.Laws.{Is}
 use denote.Struct.Declared.{row}
@@ -13,7 +13,4 @@ pub record Lengths (u : Unfinished) : Type 0 where
   pub values : length u.values ≡ 4096
 
 pub lengths : (u : Unfinished) {vs : List Val} → Is (row the_type) u vs → Lengths u
-lengths u g = record {
-  bytes = sym (length-map u.bytes _) ∙ g.1.1.0.1.0.1;
-  values = sym (length-map u.values _) ∙ g.1.1.1.1.0.1.0.1;
-}
+lengths u g = record { bytes = g.1.1.0.1.0.1; values = g.1.1.1.1.0.1.0.1 }

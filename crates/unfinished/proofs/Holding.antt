@@ -16,7 +16,7 @@ use Rattle.reader.specs.Parsing.{ParsedAs}
 use Rattle.semantics.specs.Operations.{case_of}
 use Rattle.semantics.specs.Unfinished.{held_case, after_round, advanced, advance_answer}
 use Rattle.semantics.specs.declared.ongoing.Unfinished.{Unfinished}
-use Rattle.semantics.proofs.States.{before_end, after_end}
+use Rattle.semantics.proofs.States.{before_end, rests_after_end}
 use Rattle.unfinished.specs.Rounds.{ValuesWorked}
 
 -- what is cut off at the end of the array was not there
@@ -51,7 +51,7 @@ module _ (u : Unfinished) where
   round_due z e = e ∙ sym (before_end u z)
 
   pub round_over : (u.over ≡ 0 → ⊥) → u ≡ advanced u
-  round_over n = sym (after_end u n)
+  round_over n = sym (rests_after_end u n)
 
 -- whether the end is reached is told of the state after the round
 pub advance_told : (u : Unfinished) {after : Unfinished} {told : ℕ} → after ≡ advanced u → told ≡ cond (not (eqb after.over 0)) 1 0

@@ -4,8 +4,8 @@ use native.Mathlib.Omega.{arith}
 use mathlib.Core.Path.{◌≡◌, sym, ap, ap₂, ◌∙◌}
 use mathlib.Core.Logic.{⊎_elim}
 use mathlib.Core.List.{List, [], ◌∷◌, ◌++◌}
-use lib.ListN.{length, get_or, take, drop, replicate, length-append, length-drop, length-replicate, get_or-replicate, get_or-append, get_or-eq_default}
-use lib.Seq.{ext_get_or, take-length, get_or-append-add, get_or-drop}
+use lib.ListN.{length, get_or, drop, replicate, length-append, length-drop, length-replicate, get_or-replicate, get_or-append, get_or-eq_default}
+use lib.Seq.{ext_get_or, get_or-append-add, get_or-drop}
 use mir.Syntax.{w64}
 use mir.Val.{Fits}
 use Rattle.fixpoint.proofs.Lists.{lt_cases, length_made, get_d_made}
@@ -22,12 +22,11 @@ use Rattle.semantics.proofs.Held.{empty_input_reads, reads_input, refused_input}
 use Rattle.semantics.proofs.Pairs.{pairs_at_most}
 
 -- what is copied into zeros
-copy_is : (n : ℕ) (s : List ℕ) → length s ≤ n → take (length s) s ++ drop (length s) (replicate n 0) ≡ copied n s
+copy_is : (n : ℕ) (s : List ℕ) → length s ≤ n → s ++ drop (length s) (replicate n 0) ≡ copied n s
 unfolding copied
 copy_is n s h =
     let zeros : List ℕ = drop (length s) (replicate n 0) in
     let size : length zeros ≡ n - length s = length-drop (length s) (replicate n 0) ∙ ap (λ m. m - length s) (length-replicate n 0) in
-    rw (take-length s)
     (ext_get_or 0 (s ++ zeros) _ (length-append s zeros ∙ omega (arith, size, length_made (λ k. get_or s k 0) n))
     (λ k b.
     let l : k < n = omega (arith, size, length-append s zeros) in
@@ -44,7 +43,7 @@ copy_is n s h =
     (lt_cases k (length s))
     ∙ sym (get_d_made (λ k. get_or s k 0) n k 0 l)))
 
-pub input_opened : (s : List ℕ) (pairs : ℕ) {held : List ℕ} → length s ≤ 8192 → held ≡ take (length s) s ++ drop (length s) (replicate 8192 0)
+pub input_opened : (s : List ℕ) (pairs : ℕ) {held : List ℕ} → length s ≤ 8192 → held ≡ s ++ drop (length s) (replicate 8192 0)
     → record { bytes = held; length = length s; values = replicate 4096 1; pairs = pairs; over = 0 } ≡ first_state_with s pairs
 unfolding first_state_with
 input_opened s pairs h e = ap (λ b. record { bytes = b; length = length s; values = replicate 4096 1; pairs = pairs; over = 0 }) (e ∙ copy_is 8192 s h)

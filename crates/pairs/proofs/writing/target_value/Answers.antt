@@ -1,5 +1,5 @@
 -- `pairs::writing::target_value` meets its contract: the target's pair is below the pair count. Assumes nothing.
-use Rattle.pairs.proofs.Tallying.{target_row_fits, pair_fits, target_pair_in, pair_value}
+use Rattle.pairs.proofs.Tallying.{target_row_fits, pair_fits, target_pair_in, target_pair_value}
 use Rattle.pairs.proofs.writing.target_value.Goals as goal
 
 pub overflow_mul-pair : goal.overflow_mul-pair
@@ -12,4 +12,4 @@ pub bounds-values-pair : goal.bounds-values-pair
 bounds-values-pair c = search target_pair_in
 
 pub returns : goal.returns
-returns c = search pair_value
+returns c = search target_pair_value
