@@ -6,7 +6,7 @@ use Rattle.cases.specs.declared.answers.Refusal.{Refusal}
 use Rattle.cases.specs.declared.counts.Counts.{Counts}
 use Rattle.semantics.specs.declared.answers.Solution.{Solution}
 use Rattle.semantics.specs.Solving.{solved_values, solved_levels}
-use Rattle.semantics.specs.Solving.{verdicts as verdictsOf}
+use Rattle.semantics.specs.Solving.{verdicts as verdicts_of}
 use Rattle.semantics.specs.Operations.{or_else, refuse_unless, written, level_bytes, solution}
 
 -- 10, 11 and 12, by the lengths of the tables
@@ -27,4 +27,4 @@ pub record CaseSolved (c : Case) (values levels verdicts : List ℕ) (r : Soluti
   pub answer : r ≡ solution no_refusal c
   pub values_left : values' ≡ written no_refusal (solved_values c) values
   pub levels_left_is : levels' ≡ written no_refusal (level_bytes (solved_levels c)) levels
-  pub verdicts_left : verdicts' ≡ written no_refusal (verdictsOf c) verdicts
+  pub verdicts_left : verdicts' ≡ written no_refusal (verdicts_of c) verdicts

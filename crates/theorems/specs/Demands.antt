@@ -6,7 +6,7 @@ use Rattle.cases.specs.Reading.{outcome}
 use Rattle.semantics.specs.Denial.{OwnDenial, strata}
 use Rattle.semantics.specs.Operations.{case_of, level_bytes, solve_answer, solve_values, solve_levels, solve_verdicts, check_answer, rank_strata}
 use Rattle.semantics.specs.Solving.{solved_values, solved_levels}
-use Rattle.semantics.specs.Solving.{verdicts as verdictsOf}
+use Rattle.semantics.specs.Solving.{verdicts as verdicts_of}
 use Rattle.semantics.specs.Values.{pair_count, pair_of}
 
 -- ---- Demand 1
@@ -29,7 +29,7 @@ pub record Untouched (s value_table level_table verdict_table : List ℕ) : Type
 pub record LeadingWritten (s value_table level_table verdict_table : List ℕ) : Type 0 where
   pub values : solve_values s value_table level_table verdict_table ≡ solved_values (case_of s) ++ drop (pair_count (case_of s)) value_table
   pub levels : solve_levels s value_table level_table verdict_table ≡ level_bytes (solved_levels (case_of s)) ++ drop (2 * pair_count (case_of s)) level_table
-  pub verdicts : solve_verdicts s value_table level_table verdict_table ≡ verdictsOf (case_of s) ++ drop (length (case_of s).targets) verdict_table
+  pub verdicts : solve_verdicts s value_table level_table verdict_table ≡ verdicts_of (case_of s) ++ drop (length (case_of s).targets) verdict_table
 
 -- ranking writes the leading entries named
 pub record StrataWritten (s table : List ℕ) : Type 0 where
