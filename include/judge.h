@@ -2,8 +2,8 @@
  * sure, checks proposals by the newer code and by the old one, and ranks shapes by denial.
  *
  * Link with libjudge.a, which `scripts/library` writes to target/staticlib/ (x86-64 Linux). The library keeps no state, allocates
- * nothing and calls nothing: any number of threads may call it at once, each on its own tables. How much stack each call needs is
- * said below (JUDGE_READ_STACK and the others).
+ * nothing and calls nothing but memcpy and memset: any number of threads may call it at once, each on its own tables. How much stack
+ * each call needs is said below (JUDGE_READ_STACK and the others).
  *
  * Every slice is a pointer and a length in bytes. A length of 0 needs no valid pointer but a non-null, suitably aligned one: pass the
  * address of any byte. Slices of one call must not overlap where one of them is written. The library reads and writes nothing outside
