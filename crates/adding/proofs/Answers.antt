@@ -12,10 +12,9 @@ use mir.Syntax.{w64}
 use mir.Val.{Fits}
 use borrow.Author.Tests.{ne_eqb, ltb-true, lt-ltb, le-ltb, leb-true}
 use Rattle.cases.specs.Case.{Case}
-use Rattle.cases.specs.Reading.{no_refusal}
 use Rattle.cases.specs.Rows.{case_in, target_in}
 use Rattle.cases.specs.declared.answers.Parsed.{Parsed}
-use Rattle.cases.specs.declared.answers.Refusal.{Refusal}
+use Rattle.cases.specs.Refusals.{Refusal, no_refusal}
 use Rattle.cases.specs.declared.command.Target.{Target}
 use Rattle.cases.specs.declared.counts.Counts.{Counts}
 use Rattle.cases.proofs.InRows.{nodes_in, shapes_in, edges_in, targets_in}

@@ -1,7 +1,6 @@
 -- What is refused before the search, and what its end answers. Assumes nothing.
 use Rattle.std.specs.Prelude.{ℕ, ◌+◌, ◌*◌, ◌%◌, ◌^◌, cond, List, length, ltb}
-use Rattle.cases.specs.Reading.{no_refusal}
-use Rattle.cases.specs.declared.answers.Refusal.{Refusal}
+use Rattle.cases.specs.Refusals.{Refusal, no_refusal}
 use Rattle.cases.specs.declared.counts.Counts.{Counts}
 use Rattle.fixpoint.specs.Lists.{up_to}
 use Rattle.semantics.specs.declared.answers.Fewest.{Fewest}

@@ -1,6 +1,6 @@
 -- What is asked of candidates: whether their nodes are in a case, and of which properties they are. Assumes nothing.
 use Rattle.std.specs.Prelude.{ℕ, ◌+◌, Bool, ◌&&◌, List, eqb, ltb}
-use Rattle.cases.specs.declared.answers.Refusal.{Refusal}
+use Rattle.cases.specs.Refusals.{Refusal}
 use Rattle.fixpoint.specs.Lists.{up_to, any}
 use Rattle.semantics.specs.Adding.{candidate_at, candidate_count}
 use Rattle.semantics.specs.Operations.{refuse_unless}

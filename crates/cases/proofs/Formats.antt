@@ -1,5 +1,6 @@
 -- What a branch on a negated test says of the test, what the operand reader's answer says of the part that it read, and the groups of
 -- commands. Assumes nothing.
+use Rattle.std.specs.Prelude.{Option, Some, None}
 use mathlib.Core.Path.{◌≡◌, sym, ◌∙◌}
 use mathlib.Core.Logic.{⊎_elim}
 use mathlib.Core.Bool.{Bool, true, false, cond, not}
@@ -10,8 +11,6 @@ use borrow.Author.Tests.{not-true, not-false, leb-true}
 use Rattle.fixpoint.proofs.Lists.{bool_cases, by_test}
 use Rattle.cases.specs.declared.command.Row.{Row}
 use Rattle.cases.specs.declared.format.Format.{Format}
-use Rattle.cases.specs.declared.format.Operands.{Operands}
-use Rattle.cases.specs.declared.format.Operands.TheVariants.{Complete, Cut}
 use Rattle.cases.specs.Format.{format_of, group_of, width_of, complete, operands_of, operands_by, row_of}
 
 pub failed : {test answer : Bool} → answer ≡ test → not answer ≡ true → test ≡ false
@@ -37,11 +36,11 @@ format_grouped b = search (choose_group, this_group) depth 64
 pub group_at_most : (b : ℕ) → group_of b ≤ 7
 group_at_most b = (format_grouped b).grouped
 
-module _ {answer : Operands} (s : List ℕ) (read : answer ≡ operands_of s) where
-  pub cut : answer ≡ Cut → complete s ≡ false
+module _ {answer : Option Row} (s : List ℕ) (read : answer ≡ operands_of s) where
+  pub cut : answer ≡ None → complete s ≡ false
   unfolding operands_by complete width_of row_of
   cut h = ⊎_elim (λ e. cc) (λ e. e) (bool_cases (complete s))
 
-  pub completed : {row : Row} → answer ≡ Complete row → (complete s ≡ true) × (row_of s ≡ row)
+  pub completed : {row : Row} → answer ≡ Some row → (complete s ≡ true) × (row_of s ≡ row)
   unfolding operands_by complete width_of row_of
   completed h = ⊎_elim (λ e. (e, cc)) (λ e. (cc, cc)) (bool_cases (complete s))

@@ -1,5 +1,6 @@
 -- What a part that is read shows: its rules pass 5, 6 and 7 and fit bytes, and it ends within the input; and the numbers of its refusals.
 -- Assumes nothing.
+use Rattle.std.specs.Prelude.{Option, Some, None}
 use Prim.Native.Nat.{ℕ, zero, suc, ◌+◌, ◌≤◌, ◌<◌}
 use native.Mathlib.Omega.{arith}
 use mathlib.Core.Path.{◌≡◌, refl}
@@ -15,9 +16,7 @@ use Rattle.cases.specs.declared.command.Row.{Row}
 use Rattle.cases.specs.declared.command.ShapeRule.{ShapeRule}
 use Rattle.cases.specs.declared.command.ShapeRule.TheVariants.{Top, Node, And, Or, Not, Same, All, AtLeast}
 use Rattle.cases.specs.declared.format.Format.{Format}
-use Rattle.cases.specs.declared.format.Operands.TheVariants.{Complete, Cut}
-use Rattle.cases.specs.declared.heads.Head.{Head}
-use Rattle.cases.specs.declared.heads.Head.TheVariants.{Refused, Name, Alone, One, Two, AtMost}
+use Rattle.cases.specs.Parts.{Head, Refused, Name, Alone, One, Two, AtMost}
 use Rattle.cases.specs.Case.{paths_of_shape, references}
 use Rattle.cases.specs.Faults.{shape_nodes_known, shape_paths_earlier, shape_least_positive}
 use Rattle.cases.specs.Format.{width_by, row_by, number_at, operands_by, shape_rule_of}
@@ -145,13 +144,13 @@ module _ (nodes paths : ℕ) (part : List ℕ) where
       (choose b 0x2a _ _ (record { fits = record { alone = λ e. absurd (false≢true e); byte = λ h. h } })
       (record { fits = record { alone = λ e. absurd (false≢true e); byte = λ h. none_byte b } }))))))))))
 
-  complete_shows : (f : Format) (row : Row) → OfKind f.0 row → Takes part (width_by f) → HeadShows nodes paths part (whole_head nodes paths f (Complete row))
+  complete_shows : (f : Format) (row : Row) → OfKind f.0 row → Takes part (width_by f) → HeadShows nodes paths part (whole_head nodes paths f (Some row))
   unfolding whole_head HeadShows
   complete_shows f row o t =
       by_test (eqb f.0 4) (λ e. rw e t)
       (λ e. rw e (by_test (eqb f.0 5) (λ d. rw d (most_shows row (width_by f) t)) (λ d. rw d (rule_shows f.0 row (width_by f) o t))))
 
-  cut_shows : (f : Format) → HeadShows nodes paths part (whole_head nodes paths f Cut)
+  cut_shows : (f : Format) → HeadShows nodes paths part (whole_head nodes paths f None)
   unfolding whole_head HeadShows
   cut_shows f = refl
 

@@ -1,4 +1,5 @@
 -- What a command that is found shows, and that what every command keeps holds at the end of the walk. Assumes nothing.
+use Rattle.std.specs.Prelude.{Option, Some, None}
 use Prim.Native.Nat.{ℕ, zero, suc, ◌+◌, ◌≤◌, ◌<◌}
 use native.Mathlib.Omega.{arith}
 use mathlib.Core.Path.{◌≡◌, refl}
@@ -9,10 +10,8 @@ use lib.Dec.{eqb, ltb}
 use borrow.Author.Tests.{leb-true, eqb-true, eqb-false}
 use Rattle.fixpoint.specs.Lists.{all}
 use Rattle.fixpoint.proofs.Lists.{by_test}
-use Rattle.cases.specs.declared.answers.Heading.{Heading}
-use Rattle.cases.specs.declared.answers.Heading.TheVariants.{Is as HeadingIs, Refused as HeadingRefused}
-use Rattle.cases.specs.declared.answers.Step.{Step}
-use Rattle.cases.specs.declared.answers.Step.TheVariants.{Is, Refused}
+use Rattle.cases.specs.Reading.{Heading, HeadingIs, HeadingRefused}
+use Rattle.cases.specs.Reading.{Step, Is, Refused}
 use Rattle.cases.specs.declared.answers.Taken.{Taken}
 use Rattle.cases.specs.declared.command.Edge.{Edge}
 use Rattle.cases.specs.declared.command.Command.{Command}
@@ -21,8 +20,6 @@ use Rattle.cases.specs.declared.command.Command.TheVariants.{Edge as EdgeCommand
 use Rattle.cases.specs.declared.command.Row.{Row}
 use Rattle.cases.specs.declared.counts.Counts.{Counts}
 use Rattle.cases.specs.declared.format.Format.{Format}
-use Rattle.cases.specs.declared.format.Operands.{Operands}
-use Rattle.cases.specs.declared.format.Operands.TheVariants.{Complete, Cut}
 use Rattle.cases.specs.Counts.{is_profile, shape_limit}
 use Rattle.cases.specs.Faults.{in_order, within_limit, nodes_known, paths_earlier, least_positive, edge_there}
 use Rattle.cases.specs.Format.{format_of, group_of, width_of, taken_of, number_at, row_of, complete, operands_of, operands_by, missing}
@@ -127,9 +124,9 @@ missing_none : (s : List ℕ) → eqb (missing (operands_of s)) 0 ≡ complete s
 unfolding operands_by complete width_of
 missing_none s = by_test (complete s) (λ e. rw e) (λ e. rw e)
 
-missing_number : (o : Operands) → is_reading_number (missing o) ≡ true
-missing_number (Complete row) = refl
-missing_number Cut = refl
+missing_number : (o : Option Row) → is_reading_number (missing o) ≡ true
+missing_number (Some row) = refl
+missing_number None = refl
 
 module _ (profile last : ℕ) (k : Counts) (part : List ℕ) where
   unless_shows : (ok : Bool) (n : ℕ) (rest : Step) → is_reading_number n ≡ true → (ok ≡ true → StepShows profile last k part rest)

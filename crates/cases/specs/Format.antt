@@ -1,6 +1,6 @@
 -- The format: command bytes, operand widths, and the command that a part of the input starts with.
 -- Document 01, "A case, command by command"; document 02, points 4 and 8. Assumes nothing.
-use Rattle.std.specs.Prelude.{ℕ, ◌+◌, ◌*◌, Bool, cond, List, length, get_or, eqb, leb}
+use Rattle.std.specs.Prelude.{ℕ, ◌+◌, ◌*◌, Bool, cond, List, length, get_or, Option, Some, None, eqb, leb}
 use Rattle.cases.specs.declared.command.Edge.{Edge}
 use Rattle.cases.specs.declared.command.Target.{Target}
 use Rattle.cases.specs.declared.command.Row.{Row}
@@ -13,8 +13,6 @@ use Rattle.cases.specs.declared.command.ShapeRule.{ShapeRule}
 use Rattle.cases.specs.declared.command.ShapeRule.TheVariants.{Top, Node, And, Or, Not, Same, All, AtLeast}
 use Rattle.cases.specs.declared.answers.Taken.{Taken}
 use Rattle.cases.specs.declared.format.Format.{Format}
-use Rattle.cases.specs.declared.format.Operands.{Operands}
-use Rattle.cases.specs.declared.format.Operands.TheVariants.{Complete, Cut}
 
 -- a command byte's group, in the order in which the groups stand: 0 profile, 1 nodes, 2 edges, 3 paths, 4 shapes, 5 targets, 6 end,
 -- 7 for an unknown byte, and for 28, whose parts have a format of their own; then the widths of its operands in bytes, a u8 being 1 and a u16 2
@@ -69,8 +67,8 @@ abbrev pub row_by : Format → List ℕ → Row
 row_by f s = (get_or s 0 0, number_at s 1 f.1, number_at s (1 + f.1) f.2, number_at s (1 + f.1 + f.2) f.3)
 
 -- what the operand reader answers: the row, if the input has all its bytes
-unfoldable pub operands_by : Format → List ℕ → Operands
-operands_by f s = cond (leb (width_by f) (length s)) (Complete (row_by f s)) Cut
+unfoldable pub operands_by : Format → List ℕ → Option Row
+operands_by f s = cond (leb (width_by f) (length s)) (Some (row_by f s)) None
 
 -- the same for the command that a part of the input starts with
 unfoldable pub row_of : List ℕ → Row
@@ -79,13 +77,13 @@ row_of s = row_by (format_of (get_or s 0 0)) s
 unfoldable pub complete : List ℕ → Bool
 complete s = leb (width_of (get_or s 0 0)) (length s)
 
-abbrev pub operands_of : List ℕ → Operands
+abbrev pub operands_of : List ℕ → Option Row
 operands_of s = operands_by (format_of (get_or s 0 0)) s
 
 -- the number of each of its answers: 3 where the input ends before the operands are complete
-abbrev pub missing : Operands → ℕ
-missing (Complete row) = 0
-missing Cut = 3
+abbrev pub missing : Option Row → ℕ
+missing (Some row) = 0
+missing None = 3
 
 -- the meaning of a row, group by group
 abbrev pub edge_of : Row → Edge

@@ -4,6 +4,7 @@ pub mod Counts
 pub mod Format
 pub mod References
 pub mod Faults
+pub mod Refusals
 pub mod Parts
 pub mod Reading
 pub mod Sound

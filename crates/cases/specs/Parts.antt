@@ -1,16 +1,17 @@
 -- Rules inside rules: the parts of command 28, and the shapes that they expand to. Document 02, point 2. Assumes nothing.
-use Rattle.std.specs.Prelude.{ℕ, zero, suc, ◌+◌, Bool, cond, List, [], ◌∷◌, ◌++◌, length, get_or, drop, eqb, ltb}
+use Rattle.std.specs.Prelude.{ℕ, zero, suc, ◌+◌, Bool, cond, List, [], ◌∷◌, ◌++◌, length, get_or, drop, Option, Some, None, Result, Ok, Err, eqb, ltb}
 use Rattle.cases.specs.declared.command.Row.{Row}
 use Rattle.cases.specs.declared.command.ShapeRule.{ShapeRule}
 use Rattle.cases.specs.declared.command.ShapeRule.TheVariants.{Top, Node, And, Or, Not, Same, All, AtLeast}
 use Rattle.cases.specs.declared.format.Format.{Format}
-use Rattle.cases.specs.declared.format.Operands.{Operands}
-use Rattle.cases.specs.declared.format.Operands.TheVariants.{Complete, Cut}
-use Rattle.cases.specs.declared.heads.Head.{Head}
-use Rattle.cases.specs.declared.heads.Head.TheVariants.{Refused, Name, Alone, One, Two, AtMost}
+use Rattle.cases.specs.declared.heads.Head.{Head as FoundHead}
+use Rattle.cases.specs.declared.heads.Opens.{Opens}
+use Rattle.cases.specs.declared.heads.Opens.TheVariants.{Name as OpensName, Alone as OpensAlone, One as OpensOne, Two as OpensTwo, AtMost as OpensAtMost}
+use Rattle.cases.specs.declared.refusals.Fault.{Fault}
 use Rattle.cases.specs.Case.{references}
 use Rattle.cases.specs.Faults.{shape_nodes_known, shape_paths_earlier, shape_least_positive}
 use Rattle.cases.specs.Format.{width_by, operands_by, missing, shape_rule_of}
+use Rattle.cases.specs.Refusals.{number}
 
 -- ---- The head of a part: 1, 3, 5, 6 and 7
 
@@ -30,6 +31,28 @@ part_format_of b =
     (cond (eqb b 0x29) (4, 1, 0, 0)
     (cond (eqb b 0x2a) (5, 1, 1, 0)
     (0, 0, 0, 0))))))))))
+
+-- what stands where a part opens: the number of a refusal; or a row, of a named shape, of a rule with no, one or two inner parts, whose shape
+-- operands are 0, or of the at least behind an at most; and the bytes that the head takes
+pub data Head : Type 0 where
+  Refused : ℕ → Head
+  Name : Row → ℕ → Head
+  Alone : Row → ℕ → Head
+  One : Row → ℕ → Head
+  Two : Row → ℕ → Head
+  AtMost : Row → ℕ → Head
+
+-- what the code answers for it
+abbrev pub head_opens : Opens → Row → ℕ → Head
+head_opens OpensName = Name
+head_opens OpensAlone = Alone
+head_opens OpensOne = One
+head_opens OpensTwo = Two
+head_opens OpensAtMost = AtMost
+
+abbrev pub head_says : Result FoundHead Fault → Head
+head_says (Ok x) = head_opens x.opens x.row x.width
+head_says (Err fault) = Refused (number fault)
 
 -- what follows, unless a test fails
 abbrev pub open_unless : Bool → ℕ → Head → Head
@@ -55,9 +78,9 @@ at_most_head paths row width =
     (AtMost (0x27, row.1 + 1, row.2, 0) width))
 
 -- a head that is there whole, by its kind
-unfoldable pub whole_head : ℕ → ℕ → Format → Operands → Head
-whole_head nodes paths f Cut = Refused (missing Cut)
-whole_head nodes paths f (Complete row) =
+unfoldable pub whole_head : ℕ → ℕ → Format → Option Row → Head
+whole_head nodes paths f None = Refused (missing None)
+whole_head nodes paths f (Some row) =
     cond (eqb f.0 4) (Name row (width_by f))
     (cond (eqb f.0 5) (at_most_head paths row (width_by f))
     (rule_head nodes paths f.0 row (width_by f)))

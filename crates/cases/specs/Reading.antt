@@ -1,19 +1,19 @@
 -- Reading: what is at fault with a command, the walk over the input, and what reading answers.
 -- Document 01, "A case, command by command" (limits, order) and "Refusals", Reading; document 02, points 2, 4 and 8. Assumes nothing.
-use Rattle.std.specs.Prelude.{ℕ, zero, suc, ◌+◌, Bool, true, false, cond, ◌&&◌, ◌||◌, List, [], ◌∷◌, ◌++◌, map, length, get_or, drop, eqb, leb, ltb}
+use Rattle.std.specs.Prelude.{ℕ, zero, suc, ◌+◌, Bool, true, false, cond, ◌&&◌, ◌||◌, List, [], ◌∷◌, ◌++◌, map, length, get_or, drop, Result, Ok, Err, eqb, leb, ltb}
 use Rattle.cases.specs.declared.command.Command.{Command}
 use Rattle.cases.specs.declared.command.Command.TheVariants.{Nodes, End}
 use Rattle.cases.specs.declared.command.Command.TheVariants.{Edge as EdgeCommand, Path as PathCommand, Shape as ShapeCommand, Target as TargetCommand}
 use Rattle.cases.specs.declared.command.Edge.{Edge}
 use Rattle.cases.specs.declared.command.Row.{Row}
-use Rattle.cases.specs.declared.answers.Heading.{Heading}
-use Rattle.cases.specs.declared.answers.Heading.TheVariants.{Is as HeadingIs, Refused as HeadingRefused}
+use Rattle.cases.specs.declared.answers.Heading.{Heading as SaidHeading}
 use Rattle.cases.specs.declared.answers.Reading.{Reading}
-use Rattle.cases.specs.declared.answers.Refusal.{Refusal}
-use Rattle.cases.specs.declared.answers.Step.{Step}
-use Rattle.cases.specs.declared.answers.Step.TheVariants.{Is, Refused}
+use Rattle.cases.specs.Refusals.{number, Refusal, no_refusal}
+use Rattle.cases.specs.declared.answers.Step.{Step as FoundStep}
 use Rattle.cases.specs.declared.answers.Taken.{Taken}
 use Rattle.cases.specs.declared.counts.Counts.{Counts}
+use Rattle.cases.specs.declared.refusals.Fault.{Fault as Faulted}
+use Rattle.cases.specs.declared.refusals.Refusal.{Refusal as Refused_at}
 use Rattle.cases.specs.Case.{Case, empty_case, counts_of, references}
 use Rattle.cases.specs.Counts.{is_profile, shape_limit}
 use Rattle.cases.specs.Faults.{in_order, within_limit, nodes_known, paths_earlier, least_positive, edge_there}
@@ -26,7 +26,12 @@ use Rattle.cases.specs.Parts.{Part, Plain, PartRead, PartFault, PartIs, part_at,
 abbrev pub headed : List ℕ → Bool
 headed s = ltb 0 (length s) && eqb (get_or s 0 0) 0x00
 
--- the profile and how many bytes say it, or the number of a refusal: "22 unknown profile, after 3 in the same command"; "No 00 means profile 0"
+-- what the input begins with: the profile and how many bytes say it, or the number of a refusal
+pub data Heading : Type 0 where
+  HeadingIs : ℕ → ℕ → Heading
+  HeadingRefused : ℕ → Heading
+
+-- "22 unknown profile, after 3 in the same command"; "No 00 means profile 0"
 unfoldable pub heading_of : List ℕ → Heading
 heading_of s =
     cond (headed s)
@@ -35,10 +40,10 @@ heading_of s =
     (HeadingRefused 3))
     (HeadingIs 0 0)
 
--- the number of each of these answers
-abbrev pub heading_number : Heading → ℕ
-heading_number (HeadingIs profile width) = 0
-heading_number (HeadingRefused n) = n
+-- what the code answers for it
+abbrev pub heading_says : Result SaidHeading Faulted → Heading
+heading_says (Ok x) = HeadingIs x.profile x.width
+heading_says (Err fault) = HeadingRefused (number fault)
 
 -- the profile of an input, 0 where it is refused
 abbrev pub heading_profile : Heading → ℕ
@@ -50,6 +55,11 @@ profile_of s = heading_profile (heading_of s)
 
 -- ---- Refusals 1 to 7: the faults of one command but 28, behind what the input begins with, judged by the profile and by what has been read
 -- before it
+
+-- what is found where a command should start: a command, its row and what it takes, or the number of a refusal
+pub data Step : Type 0 where
+  Is : Command → Row → Taken → Step
+  Refused : ℕ → Step
 
 -- what follows, unless a test fails
 abbrev pub unless : Bool → ℕ → Step → Step
@@ -73,16 +83,12 @@ step_at profile last counts s =
     (unless (eqb (missing (operands_of s)) 0) (missing (operands_of s))
     (judged profile counts (command_at s) (row_of s) (taken_of (get_or s 0 0)))))
 
--- the number of each of these answers
-abbrev pub number_of : Step → ℕ
-number_of (Is command row taken) = 0
-number_of (Refused n) = n
+-- what the code answers for it
+abbrev pub step_says : Result FoundStep Faulted → Step
+step_says (Ok x) = Is x.command x.row x.taken
+step_says (Err fault) = Refused (number fault)
 
 -- ---- What has been read
-
--- a refusal is document 01's number and the place; the number 0 stands for none
-abbrev pub no_refusal : Refusal
-no_refusal = record { number = 0; place = 0 }
 
 -- a shape operand and the offset of its command
 pub record Note : Type 0 where
@@ -318,3 +324,11 @@ reading s =
       shapes = (counts_of (outcome s).case).shapes;
       targets = (counts_of (outcome s).case).targets;
     }
+
+-- the answer that says these counts, and the one that says a refusal
+abbrev pub reading_of : Counts → Reading
+reading_of k =
+    record { number = 0; place = 0; nodes = k.nodes; edges = k.edges; paths = k.paths; shapes = k.shapes; targets = k.targets }
+
+abbrev pub reading_refused : Refused_at → Reading
+reading_refused r = record { number = number r.fault; place = r.place; nodes = 0; edges = 0; paths = 0; shapes = 0; targets = 0 }

@@ -1,15 +1,16 @@
-// What reading answers: of one command, of a refusal, of the whole input.
+// What reading answers: of what the input begins with, of one command, of the whole input.
 ghost use Rattle.std.specs.Prelude.{◌≡◌};
-ghost use Rattle.cases.specs.Reading.{number_of, no_refusal};
+ghost use Rattle.cases.specs.Reading.{reading_of, reading_refused};
 
 use crate::command::{Command, Row};
 use crate::counts::Counts;
+use crate::refusals::Refusal;
 
-// What the input begins with: the profile and how many bytes say it, or the number of a refusal.
+// What the input begins with: the profile and how many bytes say it.
 #[derive(Clone, Copy)]
-pub enum Heading {
-    Is(usize, usize),
-    Refused(usize),
+pub struct Heading {
+    pub profile: usize,
+    pub width: usize,
 }
 
 // What a command takes of the input: its group, in the order in which the groups stand, and its bytes.
@@ -19,44 +20,12 @@ pub struct Taken {
     pub width: usize,
 }
 
-// What reading finds where a command should start: a command, its row and what it takes, or the number of a refusal.
+// What reading finds where a command should start, where it is not refused: a command, its row and what it takes.
 #[derive(Clone, Copy)]
-pub enum Step {
-    Is(Command, Row, Taken),
-    Refused(usize),
-}
-
-// The refusal's number, 0 for a command.
-pub fn number_of(step: Step) -> usize
-    ensures { result ≡ number_of step }
-{
-    match step {
-        Step::Is(_, _, _) => 0,
-        Step::Refused(number) => number,
-    }
-}
-
-// A refusal's number, 0 for none, and its place.
-#[derive(Clone, Copy)]
-pub struct Refusal {
-    pub number: usize,
-    pub place: usize,
-}
-
-pub fn no_refusal() -> Refusal
-    ensures { result ≡ no_refusal }
-{
-    Refusal {
-        number: 0,
-        place: 0,
-    }
-}
-
-// What reading comes to, beside the table of rows: the counts are 0 on a refusal.
-#[derive(Clone, Copy)]
-pub struct Parsed {
-    pub refusal: Refusal,
-    pub counts: Counts,
+pub struct Step {
+    pub command: Command,
+    pub row: Row,
+    pub taken: Taken,
 }
 
 // What `read` answers: number and place of the refusal, 0 for none, and the counts, 0 on a refusal.
@@ -70,4 +39,36 @@ pub struct Reading {
     pub paths: usize,
     pub shapes: usize,
     pub targets: usize,
+}
+
+impl From<Counts> for Reading {
+    fn from(counts: Counts) -> Reading
+        ensures { result ≡ reading_of counts }
+    {
+        Reading {
+            number: 0,
+            place: 0,
+            nodes: counts.nodes,
+            edges: counts.edges,
+            paths: counts.paths,
+            shapes: counts.shapes,
+            targets: counts.targets,
+        }
+    }
+}
+
+impl From<Refusal> for Reading {
+    fn from(refusal: Refusal) -> Reading
+        ensures { result ≡ reading_refused refusal }
+    {
+        Reading {
+            number: refusal.fault.number(),
+            place: refusal.place,
+            nodes: 0,
+            edges: 0,
+            paths: 0,
+            shapes: 0,
+            targets: 0,
+        }
+    }
 }

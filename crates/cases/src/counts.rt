@@ -3,7 +3,7 @@ ghost use Rattle.std.specs.Prelude.{◌≡◌};
 ghost use Rattle.cases.specs.Counts.{is_profile, node_limit, shape_limit, words_of, size_of};
 
 // How many nodes, edges, paths, shapes and targets a case has.
-#[derive(Clone, Copy)]
+#[derive(Clone, Copy, Default)]
 pub struct Counts {
     pub nodes: usize,
     pub edges: usize,
@@ -71,17 +71,5 @@ pub fn size_of(counts: Counts) -> Size
     Size {
         nodes: counts.nodes,
         words: words_of(counts),
-    }
-}
-
-pub fn no_counts() -> Counts
-    ensures { result ≡ record { nodes = 0; edges = 0; paths = 0; shapes = 0; targets = 0 } }
-{
-    Counts {
-        nodes: 0,
-        edges: 0,
-        paths: 0,
-        shapes: 0,
-        targets: 0,
     }
 }

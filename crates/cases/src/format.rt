@@ -1,6 +1,6 @@
 // The format: which bytes are commands, how wide their operands are, and reading a command's operands.
 ghost use Rattle.std.specs.Prelude.{◌≡◌, ◌+◌, ◌≤◌, ◌<◌, length};
-ghost use Rattle.cases.specs.Format.{format_of, taken_by, number_at, operands_by, missing};
+ghost use Rattle.cases.specs.Format.{format_of, taken_by, number_at, operands_by};
 ghost use Rattle.cases.specs.Parts.{part_format_of};
 
 use crate::answers::Taken;
@@ -62,14 +62,8 @@ pub fn taken_by(f: Format) -> Taken
 {
     Taken {
         group: f.0,
-        width: 1 + f.1 as usize + f.2 as usize + f.3 as usize,
+        width: 1 + usize::from(f.1) + usize::from(f.2) + usize::from(f.3),
     }
-}
-
-fn wide(byte: u8) -> u16
-    ensures { result ≡ byte }
-{
-    byte as u16
 }
 
 // The number of `width` bytes at `at`, low byte first.
@@ -80,43 +74,27 @@ pub fn number_at(part: &[u8], at: usize, width: u8) -> u16
     if width == 0 {
         return 0;
     }
-    let low = part[at] as u16;
+    let low = u16::from(part[at]);
     if width == 1 {
         return low;
     }
-    low + 256 * (part[at + 1] as u16)
+    low + 256 * u16::from(part[at + 1])
 }
 
-// What the operand reader finds: the whole command as a row, or an input that ends too early.
-#[derive(Clone, Copy)]
-pub enum Operands {
-    Complete(Row),
-    Cut,
-}
-
-// The number of a refusal, 0 for operands that are complete.
-pub fn missing_number(operands: Operands) -> usize
-    ensures { result ≡ missing operands }
-{
-    match operands {
-        Operands::Complete(_) => 0,
-        Operands::Cut => 3,
-    }
-}
-
-// Reads the operands that stand behind the byte that `part` starts with, of the widths that the format says.
-pub fn read_operands(part: &[u8], f: Format) -> Operands
+// Reads the operands that stand behind the byte that `part` starts with, of the widths that the format says: the whole command as a row, unless
+// the input ends too early.
+pub fn read_operands(part: &[u8], f: Format) -> Option<Row>
     requires { 0 < length part.now }
     ensures { result ≡ operands_by f part.now }
 {
-    let second = 1 + f.1 as usize;
-    let third = second + f.2 as usize;
-    let end = third + f.3 as usize;
+    let second = 1 + usize::from(f.1);
+    let third = second + usize::from(f.2);
+    let end = third + usize::from(f.3);
     if part.len() < end {
-        return Operands::Cut;
+        return None;
     }
     let x = number_at(part, 1, f.1);
     let y = number_at(part, second, f.2);
     let z = number_at(part, third, f.3);
-    Operands::Complete(Row(wide(part[0]), x, y, z))
+    Some(Row(u16::from(part[0]), x, y, z))
 }

@@ -5,10 +5,12 @@
 pub mod answers;
 pub mod command;
 pub mod counts;
+pub mod few;
 pub mod format;
 pub mod heads;
 pub mod numbers;
 pub mod paths;
+pub mod refusals;
 pub mod rows;
 pub mod ruled;
 pub mod shape_operands;

@@ -4,38 +4,32 @@ ghost use Rattle.cases.specs.Case.{paths_of_path, paths_of_shape};
 ghost use Rattle.cases.specs.References.{listed_paths};
 
 use crate::command::{PathRule, ShapeRule};
+use crate::few::Few;
 use crate::numbers::Path;
 
-#[derive(Clone, Copy)]
-pub enum Paths {
-    No,
-    One(Path),
-    Two(Path, Path),
-}
-
-pub fn paths_of_path(rule: PathRule) -> Paths
+pub fn paths_of_path(rule: PathRule) -> Few<Path>
     ensures { listed_paths result ≡ paths_of_path rule }
 {
     match rule {
-        PathRule::Forward(_) => Paths::No,
-        PathRule::Backward(_) => Paths::No,
-        PathRule::Union(p, q) => Paths::Two(p, q),
-        PathRule::Sequence(p, q) => Paths::Two(p, q),
-        PathRule::Star(p) => Paths::One(p),
+        PathRule::Forward(_) => Few::No,
+        PathRule::Backward(_) => Few::No,
+        PathRule::Union(p, q) => Few::Two(p, q),
+        PathRule::Sequence(p, q) => Few::Two(p, q),
+        PathRule::Star(p) => Few::One(p),
     }
 }
 
-pub fn paths_of_shape(rule: ShapeRule) -> Paths
+pub fn paths_of_shape(rule: ShapeRule) -> Few<Path>
     ensures { listed_paths result ≡ paths_of_shape rule }
 {
     match rule {
-        ShapeRule::Top => Paths::No,
-        ShapeRule::Node(_) => Paths::No,
-        ShapeRule::And(_, _) => Paths::No,
-        ShapeRule::Or(_, _) => Paths::No,
-        ShapeRule::Not(_) => Paths::No,
-        ShapeRule::Same(p, q) => Paths::Two(p, q),
-        ShapeRule::All(p, _) => Paths::One(p),
-        ShapeRule::AtLeast(_, p, _) => Paths::One(p),
+        ShapeRule::Top => Few::No,
+        ShapeRule::Node(_) => Few::No,
+        ShapeRule::And(_, _) => Few::No,
+        ShapeRule::Or(_, _) => Few::No,
+        ShapeRule::Not(_) => Few::No,
+        ShapeRule::Same(p, q) => Few::Two(p, q),
+        ShapeRule::All(p, _) => Few::One(p),
+        ShapeRule::AtLeast(_, p, _) => Few::One(p),
     }
 }

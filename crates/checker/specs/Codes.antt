@@ -1,7 +1,7 @@
 -- The first fault of a proposal whose tables are long enough, under either code. Assumes nothing.
 use Rattle.std.specs.Prelude.{ℕ, ◌*◌, List}
 use Rattle.cases.specs.Case.{Case}
-use Rattle.cases.specs.declared.answers.Refusal.{Refusal}
+use Rattle.cases.specs.Refusals.{Refusal}
 use Rattle.cases.specs.declared.counts.Counts.{Counts}
 use Rattle.semantics.specs.OldCode.{support_fault}
 use Rattle.semantics.specs.Operations.{or_else, levels_in, value_fault, pair_fault}

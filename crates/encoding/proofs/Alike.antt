@@ -10,10 +10,10 @@ use lib.Seq.{drop-drop}
 use lib.Dec.{eqb, ltb}
 use borrow.Author.Tests.{lt-ltb, le-ltb, ltb-true, ltb-false, ne_eqb, eq-eqb}
 use Rattle.fixpoint.proofs.Lists.{by_test}
-use Rattle.cases.specs.declared.answers.Refusal.{Refusal}
+use Rattle.cases.specs.Refusals.{Refusal, no_refusal}
 use Rattle.cases.specs.Case.{Case}
 use Rattle.cases.specs.Parts.{names}
-use Rattle.cases.specs.Reading.{headed, heading_of, no_refusal, counts_so_far, shapes_named, Note, Progress, start, Entry, Shape, Other, pass, named_at}
+use Rattle.cases.specs.Reading.{headed, heading_of, counts_so_far, shapes_named, Note, Progress, start, Entry, Shape, Other, pass, named_at}
 use Rattle.cases.specs.Reading.{Found, Fault, Good, step_at, plain_found, nested_found, roomy, roomy_found, laid_found, found_at}
 use Rattle.cases.specs.Reading.{unknown_shape, after_end, Walked, refused, finish, is_end_entry, stepped, walk, walked_from, walked, expanded, Outcome, outcome}
 use Rattle.cases.proofs.Steps.{GoodShows, found_shows}

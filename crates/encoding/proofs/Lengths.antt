@@ -1,4 +1,5 @@
 -- The length of an input that reading does not refuse: 8,192 bytes at most. Assumes nothing.
+use Rattle.std.specs.Prelude.{Option, Some, None}
 use Prim.Native.Nat.{ℕ, zero, suc, ◌+◌, ◌*◌, ◌≤◌, ◌<◌}
 use native.Mathlib.Omega.{arith}
 use mathlib.Core.Path.{◌≡◌, refl, sym, ◌∙◌}
@@ -8,10 +9,8 @@ use lib.ListN.{length, get_or, drop}
 use lib.Dec.{eqb, leb, ltb}
 use borrow.Author.Tests.{leb-true, eqb-true, ltb-false}
 use Rattle.fixpoint.proofs.Lists.{by_test}
-use Rattle.cases.specs.declared.answers.Heading.{Heading}
-use Rattle.cases.specs.declared.answers.Heading.TheVariants.{Is as HeadingIs, Refused as HeadingRefused}
-use Rattle.cases.specs.declared.answers.Step.{Step}
-use Rattle.cases.specs.declared.answers.Step.TheVariants.{Is, Refused as StepRefused}
+use Rattle.cases.specs.Reading.{Heading, HeadingIs, HeadingRefused}
+use Rattle.cases.specs.Reading.{Step, Is, Refused as StepRefused}
 use Rattle.cases.specs.declared.answers.Taken.{Taken}
 use Rattle.cases.specs.declared.command.Command.{Command}
 use Rattle.cases.specs.declared.command.Command.TheVariants.{Nodes, End}
@@ -20,10 +19,7 @@ use Rattle.cases.specs.declared.command.Edge.{Edge}
 use Rattle.cases.specs.declared.command.Row.{Row}
 use Rattle.cases.specs.declared.counts.Counts.{Counts}
 use Rattle.cases.specs.declared.format.Format.{Format}
-use Rattle.cases.specs.declared.format.Operands.{Operands}
-use Rattle.cases.specs.declared.format.Operands.TheVariants.{Complete, Cut}
-use Rattle.cases.specs.declared.heads.Head.{Head}
-use Rattle.cases.specs.declared.heads.Head.TheVariants.{Refused, Name, Alone, One, Two, AtMost}
+use Rattle.cases.specs.Parts.{Head, Refused, Name, Alone, One, Two, AtMost}
 use Rattle.cases.specs.Counts.{shape_limit}
 use Rattle.cases.specs.Faults.{in_order, within_limit, nodes_known, paths_earlier, least_positive, shape_nodes_known, shape_paths_earlier, shape_least_positive}
 use Rattle.cases.specs.Format.{format_of, group_of, width_by, taken_of, operands_by, operands_of, missing, shape_rule_of, command_at}
@@ -93,10 +89,10 @@ module _ (nodes paths w : ℕ) where
   unfolding at_most_head HeadTakes
   most_takes row v h = head_unless (ltb row.2 paths) 6 _ (omega arith) (head_unless (ltb row.1 255) 7 _ (omega arith) h)
 
-  whole_takes : (f : Format) (o : Operands) → width_by f ≤ w → HeadTakes w (whole_head nodes paths f o)
+  whole_takes : (f : Format) (o : Option Row) → width_by f ≤ w → HeadTakes w (whole_head nodes paths f o)
   unfolding whole_head HeadTakes
-  whole_takes f Cut h = omega arith
-  whole_takes f (Complete row) h =
+  whole_takes f None h = omega arith
+  whole_takes f (Some row) h =
       by_test (eqb f.0 4) (λ e. rw e h)
       (λ e. rw e (by_test (eqb f.0 5) (λ d. rw d (most_takes row (width_by f) h)) (λ d. rw d (rule_takes f.0 row (width_by f) h))))
 
@@ -148,9 +144,9 @@ unfolding StepTakes
 step_unless true n rest z k = k
 step_unless false n rest z k = z refl
 
-missing_some : (o : Operands) → eqb (missing o) 0 ≡ false → 0 < missing o
-missing_some (Complete row) h = absurd (false≢true (sym h))
-missing_some Cut h = omega arith
+missing_some : (o : Option Row) → eqb (missing o) 0 ≡ false → 0 < missing o
+missing_some (Some row) h = absurd (false≢true (sym h))
+missing_some None h = omega arith
 
 step_takes : (profile last : ℕ) (k : Counts) (s : List ℕ) → StepTakes (step_at profile last k s)
 unfolding step_at judged taken_of StepTakes

@@ -10,8 +10,7 @@ use lib.Dec.{eqb, leb}
 use borrow.Author.Tests.{not-true, not-false, eq-eqb, ne_eqb, lt-ltb, le-ltb, le-leb, lt-leb}
 use Rattle.fixpoint.specs.Lists.{up_to}
 use Rattle.fixpoint.proofs.Lists.{lt_cases}
-use Rattle.cases.specs.declared.answers.Step.{Step}
-use Rattle.cases.specs.declared.answers.Step.TheVariants.{Is, Refused}
+use Rattle.cases.specs.Reading.{Step, Is, Refused}
 use Rattle.cases.specs.declared.answers.Taken.{Taken}
 use Rattle.cases.specs.declared.command.Command.{Command}
 use Rattle.cases.specs.declared.command.Command.TheVariants.{Nodes, End}

@@ -9,8 +9,8 @@ use Rattle.cases.specs.declared.command.Command.TheVariants.{Shape as ShapeComma
 use Rattle.cases.specs.declared.command.ShapeRule.{ShapeRule}
 use Rattle.cases.specs.declared.command.Target.{Target}
 use Rattle.cases.specs.declared.numbers.Shape.{Shape}
-use Rattle.cases.specs.declared.shape_operands.References.{References}
-use Rattle.cases.specs.declared.shape_operands.References.TheVariants.{No, One, Two}
+use Rattle.cases.specs.declared.few.Few.{Few}
+use Rattle.cases.specs.declared.few.Few.TheVariants.{No, One, Two}
 use Rattle.cases.specs.Case.{references}
 use Rattle.cases.specs.Reading.{shapes_named}
 use Rattle.cases.specs.References.{listed}
@@ -18,7 +18,7 @@ use Rattle.parts.specs.Tables.{NoteRoom, Noted}
 use Rattle.parts.proofs.Notes.{noted_none, noted_then}
 
 -- By the references of a rule, which are so many
-module _ {r : References} {n : ℕ} {t : List ℕ} where
+module _ {r : Few Shape} {n : ℕ} {t : List ℕ} where
   pub room_one : {s : Shape} → r ≡ One s → NoteRoom (listed r) n t → 2 * n + 2 ≤ length t
   room_one e h = let f = rw e at h.fits in omega arith
 
@@ -36,7 +36,7 @@ module _ {r : References} {n : ℕ} {t : List ℕ} where
         → Noted (listed r) place n t n' t'
     noted_of_two e u v = rw e (noted_then u v)
 
-pub noted_of_none : {r : References} {place n : ℕ} {t : List ℕ} → r ≡ No → Noted (listed r) place n t n t
+pub noted_of_none : {r : Few Shape} {place n : ℕ} {t : List ℕ} → r ≡ No → Noted (listed r) place n t n t
 noted_of_none e = rw e noted_none
 
 -- By the command

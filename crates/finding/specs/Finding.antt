@@ -1,7 +1,6 @@
 -- What finding a command needs and leaves. No part of document 01. Assumes nothing.
 use Rattle.std.specs.Prelude.{ℕ, ◌+◌, ◌*◌, ◌≤◌, ◌<◌, ◌≡◌, Bool, true, false, cond, not, ◌&&◌, List, [], ◌++◌, map, length, leb}
-use Rattle.cases.specs.declared.answers.Step.{Step}
-use Rattle.cases.specs.declared.answers.Step.TheVariants.{Is, Refused}
+use Rattle.cases.specs.Reading.{Step, Is, Refused}
 use Rattle.cases.specs.declared.answers.Taken.{Taken}
 use Rattle.cases.specs.declared.command.Command.{Command}
 use Rattle.cases.specs.declared.command.Command.TheVariants.{Nodes, End}

@@ -1,4 +1,5 @@
 -- What the input begins with: a 00 that is cut, one with an unknown profile, one with a known profile, and no 00. Assumes nothing.
+use Rattle.std.specs.Prelude.{Option, Some, None}
 use Prim.Native.Nat.{ℕ, ◌<◌}
 use native.Mathlib.Omega.{arith}
 use mathlib.Core.Path.{◌≡◌, ◌∙◌}
@@ -8,11 +9,9 @@ use lib.ListN.{length, get_or}
 use lib.Dec.{eqb, ltb}
 use borrow.Author.Tests.{eqb-true, lt-ltb, le-ltb, eq-eqb, ne_eqb}
 use Rattle.fixpoint.proofs.Lists.{tests, by_test}
-use Rattle.cases.specs.declared.answers.Heading.TheVariants.{Is, Refused}
+use Rattle.cases.specs.Reading.{HeadingIs as Is, HeadingRefused as Refused}
 use Rattle.cases.specs.declared.command.Row.{Row}
 use Rattle.cases.specs.declared.format.Format.{Format}
-use Rattle.cases.specs.declared.format.Operands.{Operands}
-use Rattle.cases.specs.declared.format.Operands.TheVariants.{Complete, Cut}
 use Rattle.cases.specs.Counts.{is_profile}
 use Rattle.cases.specs.Format.{format_of, operands_by, operands_of}
 use Rattle.cases.specs.Reading.{headed, heading_of}
@@ -25,15 +24,15 @@ module _ (s : List ℕ) (h : headed s ≡ true) where
   pub operands_there : 0 < length s
   operands_there = omega (arith, tests, both.0)
 
-  module _ {f : Format} (o : f ≡ format_of 0x00) {answer : Operands} (r : answer ≡ operands_by f s) where
+  module _ {f : Format} (o : f ≡ format_of 0x00) {answer : Option Row} (r : answer ≡ operands_by f s) where
     read : answer ≡ operands_of s
     read = r ∙ rw (o, eqb-true (get_or s 0 0) 0x00 both.1)
 
-    pub heading_cut : answer ≡ Cut → Refused 3 ≡ heading_of s
+    pub heading_cut : answer ≡ None → Refused 3 ≡ heading_of s
     unfolding heading_of
     heading_cut e = rw (h, cut s read e)
 
-    module _ {row : Row} (e : answer ≡ Complete row) {b : Bool} (k : b ≡ is_profile row.1) where
+    module _ {row : Row} (e : answer ≡ Some row) {b : Bool} (k : b ≡ is_profile row.1) where
       pub heading_unknown : not b ≡ true → Refused 22 ≡ heading_of s
       unfolding heading_of
       heading_unknown n = rw (h, (completed s read e).0, (completed s read e).1, failed k n)

@@ -1,4 +1,5 @@
 -- What is read where a command should start, by the tests of refusals 1 to 7 in their order. Assumes nothing.
+use Rattle.std.specs.Prelude.{Option, Some, None}
 use Prim.Native.Nat.{ℕ}
 use native.Mathlib.Omega.{arith}
 use mathlib.Core.Path.{◌≡◌, ◌∙◌}
@@ -7,15 +8,12 @@ use mathlib.Core.List.{List}
 use lib.ListN.{get_or}
 use lib.Dec.{ltb}
 use borrow.Author.Tests.{lt-ltb, le-ltb}
-use Rattle.cases.specs.declared.answers.Step.{Step}
-use Rattle.cases.specs.declared.answers.Step.TheVariants.{Refused}
+use Rattle.cases.specs.Reading.{Step, Refused}
 use Rattle.cases.specs.declared.answers.Taken.{Taken}
 use Rattle.cases.specs.declared.command.Command.{Command}
 use Rattle.cases.specs.declared.command.Row.{Row}
 use Rattle.cases.specs.declared.counts.Counts.{Counts}
 use Rattle.cases.specs.declared.format.Format.{Format}
-use Rattle.cases.specs.declared.format.Operands.{Operands}
-use Rattle.cases.specs.declared.format.Operands.TheVariants.{Complete, Cut}
 use Rattle.cases.specs.Format.{format_of, group_of, width_of, taken_by, taken_of, row_of, complete, operands_by, missing, command_of, command_at}
 use Rattle.cases.specs.Faults.{in_order}
 use Rattle.cases.specs.Reading.{judged, step_at}
@@ -35,15 +33,15 @@ module _ (profile last : ℕ) (k : Counts) (s : List ℕ) {f : Format} (o : f �
       unfolding step_at
       step_disordered e = rw (known, rw (t, o) at (failed h e))
 
-      module _ (g : not b ≡ false) {operands : Operands} (r : operands ≡ operands_by f s) where
+      module _ (g : not b ≡ false) {operands : Option Row} (r : operands ≡ operands_by f s) where
         ordered : in_order last (group_of (get_or s 0 0)) ≡ true
         ordered = rw (t, o) at (passed h g)
 
-        pub step_cut : operands ≡ Cut → {n : ℕ} → n ≡ missing operands → Refused n ≡ step_at profile last k s
+        pub step_cut : operands ≡ None → {n : ℕ} → n ≡ missing operands → Refused n ≡ step_at profile last k s
         unfolding step_at operands_by complete width_of
         step_cut e m = rw (m, e, known, ordered, cut s (rw o at r) e)
 
-        pub step_judged : {row : Row} → operands ≡ Complete row → {command : Command} → command ≡ command_of taken.group row
+        pub step_judged : {row : Row} → operands ≡ Some row → {command : Command} → command ≡ command_of taken.group row
             → {step : Step} → step ≡ judged profile k command row taken → step ≡ step_at profile last k s
         unfolding step_at operands_by complete width_of row_of command_at taken_of
         step_judged e q j = let w = completed s (rw o at r) e in j ∙ rw (q, t, o, known, ordered, w.0, w.1)

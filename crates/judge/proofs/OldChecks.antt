@@ -8,7 +8,7 @@ use lib.Dec.{leb}
 use borrow.Author.Tests.{leb-true}
 use Rattle.cases.specs.Rows.{case_in}
 use Rattle.cases.specs.declared.answers.Parsed.{Parsed}
-use Rattle.cases.specs.declared.answers.Refusal.{Refusal}
+use Rattle.cases.specs.Refusals.{Refusal}
 use Rattle.reader.specs.Parsing.{ParsedAs}
 use Rattle.semantics.specs.declared.answers.Checked.{Checked}
 use Rattle.semantics.specs.declared.answers.CheckedOld.{CheckedOld}

@@ -9,10 +9,9 @@ use lib.ListN.{length}
 use lib.Dec.{leb}
 use borrow.Author.Tests.{ne_eqb, leb-true}
 use Rattle.cases.specs.Counts.{words_of}
-use Rattle.cases.specs.Reading.{no_refusal}
 use Rattle.cases.specs.Rows.{case_in}
 use Rattle.cases.specs.declared.answers.Parsed.{Parsed}
-use Rattle.cases.specs.declared.answers.Refusal.{Refusal}
+use Rattle.cases.specs.Refusals.{Refusal, no_refusal}
 use Rattle.cases.specs.declared.counts.Counts.{Counts}
 use Rattle.reader.specs.Parsing.{ParsedAs}
 use Rattle.pairs.specs.Values.{values_by, AnswersWritten}

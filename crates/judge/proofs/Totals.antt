@@ -8,10 +8,9 @@ use lib.ListN.{get_or}
 use lib.Dec.{eqb, ltb}
 use borrow.Author.Tests.{ne_eqb, ltb-true}
 use Rattle.cases.specs.Counts.{words_of}
-use Rattle.cases.specs.Reading.{no_refusal}
 use Rattle.cases.specs.Rows.{case_in, CaseIn}
 use Rattle.cases.specs.declared.answers.Parsed.{Parsed}
-use Rattle.cases.specs.declared.answers.Refusal.{Refusal}
+use Rattle.cases.specs.Refusals.{Refusal, no_refusal}
 use Rattle.cases.specs.declared.counts.Counts.{Counts}
 use Rattle.cases.proofs.InRows.{nodes_in, shapes_in}
 use Rattle.fixpoint.specs.Lists.{up_to, count}

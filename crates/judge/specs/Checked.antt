@@ -1,6 +1,6 @@
 -- What checking refuses by the lengths of its tables. Assumes nothing.
 use Rattle.std.specs.Prelude.{ℕ, ◌*◌, leb}
-use Rattle.cases.specs.declared.answers.Refusal.{Refusal}
+use Rattle.cases.specs.Refusals.{Refusal}
 use Rattle.cases.specs.declared.counts.Counts.{Counts}
 use Rattle.semantics.specs.Operations.{or_else, refuse_unless}
 

@@ -6,7 +6,7 @@ use Rattle.cases.specs.Rows.{target_in, case_in}
 use Rattle.cases.specs.declared.counts.Counts.{Counts}
 use Rattle.cases.specs.declared.counts.Size.{Size}
 use Rattle.fixpoint.specs.Lists.{up_to}
-use Rattle.cases.specs.Reading.{no_refusal}
+use Rattle.cases.specs.Refusals.{no_refusal}
 use Rattle.semantics.specs.declared.answers.Tally.{Tally}
 use Rattle.semantics.specs.declared.answers.Totals.{Totals}
 use Rattle.semantics.specs.Answered.{tally_of}

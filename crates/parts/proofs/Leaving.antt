@@ -10,8 +10,7 @@ use Rattle.cases.specs.declared.command.Row.{Row}
 use Rattle.cases.specs.declared.command.ShapeRule.{ShapeRule}
 use Rattle.cases.specs.declared.command.ShapeRule.TheVariants.{Not}
 use Rattle.cases.specs.declared.counts.Counts.{Counts}
-use Rattle.cases.specs.declared.heads.Head.{Head}
-use Rattle.cases.specs.declared.heads.Head.TheVariants.{Refused as HeadRefused, Name as HeadName, Alone, One, Two, AtMost}
+use Rattle.cases.specs.Parts.{Head, Refused as HeadRefused, Name as HeadName, Alone, One, Two, AtMost}
 use Rattle.cases.specs.Format.{shape_rule_of}
 use Rattle.cases.specs.Parts
 use Rattle.cases.specs.Parts.{Part, Named, Plain, Around, Joining, PartRead, PartIs, head_at, and_then, opened, part_at, filled, size, operand, rule, inside, names}

@@ -1,4 +1,5 @@
 -- What stands where a part opens, by the tests on the way to each answer; and a row with other shape operands. Assumes nothing.
+use Rattle.std.specs.Prelude.{Option, Some, None}
 use Prim.Native.Nat.{ℕ}
 use native.Mathlib.Omega.{arith}
 use mathlib.Core.Path.{◌≡◌, ◌∙◌}
@@ -11,10 +12,7 @@ use Rattle.fixpoint.proofs.Lists.{by_test}
 use Rattle.cases.specs.declared.answers.Taken.{Taken}
 use Rattle.cases.specs.declared.command.Row.{Row}
 use Rattle.cases.specs.declared.format.Format.{Format}
-use Rattle.cases.specs.declared.format.Operands.{Operands}
-use Rattle.cases.specs.declared.format.Operands.TheVariants.{Complete, Cut}
-use Rattle.cases.specs.declared.heads.Head.{Head}
-use Rattle.cases.specs.declared.heads.Head.TheVariants.{Refused, Name}
+use Rattle.cases.specs.Parts.{Head, Refused, Name}
 use Rattle.cases.specs.Format.{taken_by, operands_by, missing, shape_rule_of}
 use Rattle.cases.specs.Parts.{part_format_of, rule_head, at_most_head, whole_head, head_by, head_at, filled}
 use Rattle.parts.specs.Reads.{with_references}
@@ -32,16 +30,16 @@ module _ (nodes paths : ℕ) (s : List ℕ) where
     unfolding head_at head_by
     head_unknown z = let k : (part_format_of (get_or s 0 0)).0 ≡ 0 = rw e at z in rw (there, k)
 
-    module _ (known : f.0 ≡ 0 → ⊥) {o : Operands} (r : o ≡ operands_by f s) where
+    module _ (known : f.0 ≡ 0 → ⊥) {o : Option Row} (r : o ≡ operands_by f s) where
       whole : head_at nodes paths s ≡ whole_head nodes paths f o
       unfolding head_at head_by
       whole = let k : ltb 0 f.0 ≡ true = lt-ltb 0 f.0 (omega arith) in rw (there, ← e, k, ← r)
 
-      pub head_cut : o ≡ Cut → {n : ℕ} → n ≡ missing o → Refused n ≡ head_at nodes paths s
+      pub head_cut : o ≡ None → {n : ℕ} → n ≡ missing o → Refused n ≡ head_at nodes paths s
       unfolding whole_head
       head_cut c m = rw (whole, m, c)
 
-      module _ {row : Row} (w : o ≡ Complete row) {taken : Taken} (t : taken ≡ taken_by f) where
+      module _ {row : Row} (w : o ≡ Some row) {taken : Taken} (t : taken ≡ taken_by f) where
         pub head_name : f.0 ≡ 4 → Name row taken.width ≡ head_at nodes paths s
         unfolding whole_head
         head_name k = rw (whole, w, t, k)

@@ -11,12 +11,10 @@ use lib.Seq.{take_all}
 use borrow.Author.Tests.{lt-ltb, le-ltb, eqb-true, eqb-false}
 use Rattle.fixpoint.specs.Lists.{from, up_to, all}
 use Rattle.fixpoint.proofs.Lists.{tests, by_test, all_mono}
-use Rattle.cases.specs.declared.answers.Heading.{Heading}
-use Rattle.cases.specs.declared.answers.Heading.TheVariants.{Is as HeadingIs, Refused as HeadingRefused}
+use Rattle.cases.specs.Reading.{Heading, HeadingIs, HeadingRefused}
 use Rattle.cases.specs.declared.answers.Parsed.{Parsed}
-use Rattle.cases.specs.declared.answers.Refusal.{Refusal}
-use Rattle.cases.specs.declared.answers.Step.{Step}
-use Rattle.cases.specs.declared.answers.Step.TheVariants.{Is, Refused}
+use Rattle.cases.specs.Refusals.{Refusal, no_refusal}
+use Rattle.cases.specs.Reading.{Step, Is, Refused}
 use Rattle.cases.specs.declared.answers.Taken.{Taken}
 use Rattle.cases.specs.declared.command.Command.{Command}
 use Rattle.cases.specs.declared.command.Command.TheVariants.{Nodes, End}
@@ -26,7 +24,7 @@ use Rattle.cases.specs.declared.counts.Counts.{Counts}
 use Rattle.cases.specs.Case.{Case, empty_case, counts_of}
 use Rattle.cases.specs.Faults.{within_limit}
 use Rattle.cases.specs.Parts.{Part, Named, Plain, Around, Joining, names, size, inner_size, rule, rules, fresh_rules, fresh_count, expansion}
-use Rattle.cases.specs.Reading.{heading_of, heading_number, number_of, no_refusal, Note, Progress, start, counts_so_far, add}
+use Rattle.cases.specs.Reading.{heading_of, heading_number, number_of, Note, Progress, start, counts_so_far, add}
 use Rattle.cases.specs.Reading.{shapes_named, named_at, Entry, Shape, Other, pass, Found, Fault, Good, found_at}
 use Rattle.cases.specs.Reading.{unknown_shape, after_end, refused, finish, is_end, is_end_entry, stepped, walk, walked_from, walked, Outcome, expanded, outcome, reading}
 use Rattle.cases.specs.Rows.{edge_in, case_in, Full}

@@ -1,7 +1,7 @@
 -- What reading into the table of rows leaves. No part of document 01. Assumes nothing.
 use Rattle.std.specs.Prelude.{ℕ, ◌*◌, ◌≤◌, ◌≡◌, cond, List, length, ltb}
 use Rattle.cases.specs.declared.answers.Parsed.{Parsed}
-use Rattle.cases.specs.declared.answers.Refusal.{Refusal}
+use Rattle.cases.specs.Refusals.{Refusal}
 use Rattle.cases.specs.Reading.{Note, Outcome, outcome, unknown_shape}
 use Rattle.cases.specs.Rows.{case_in, CaseIn}
 use Rattle.parts.specs.Expanding.{ExpandRoom, ExpandedAs}

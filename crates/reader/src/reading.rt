@@ -1,7 +1,7 @@
 // One walk over the input, under the profile that it begins with. Its invariant: the tables hold the commands before `at`, none of them at
 // fault, and what the whole input comes to is what the walk comes to from there.
 ghost use Rattle.std.specs.Prelude.{◌≡◌, ◌*◌, ◌≤◌, length};
-ghost use Rattle.cases.specs.declared.answers.Heading.TheVariants.{Is as HeadingIs};
+ghost use Rattle.cases.specs.Reading.{HeadingIs};
 ghost use Rattle.cases.specs.Reading.{heading_of, reading, is_end, unknown_shape};
 ghost use Rattle.cases.specs.Rows.{Full};
 ghost use Rattle.parts.specs.Tables.{named_in};

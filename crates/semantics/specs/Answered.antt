@@ -1,7 +1,7 @@
 -- How answers are put together: of a refusal its number and place, and "each count that it carries, rounds and strata included, is 0"; else what
 -- values and verdicts count. Assumes nothing.
 use Rattle.std.specs.Prelude.{ℕ, List}
-use Rattle.cases.specs.declared.answers.Refusal.{Refusal}
+use Rattle.cases.specs.Refusals.{Refusal}
 use Rattle.semantics.specs.declared.answers.Solution.{Solution}
 use Rattle.semantics.specs.declared.answers.Checked.{Checked}
 use Rattle.semantics.specs.declared.answers.Ranked.{Ranked}

@@ -6,8 +6,7 @@ use mathlib.Core.Path.{◌≡◌, ap}
 use mathlib.Core.Logic.{⊎_elim}
 use Rattle.fixpoint.specs.Lists.{up_to}
 use Rattle.fixpoint.proofs.Lists.{lt_cases}
-use Rattle.cases.specs.Reading.{no_refusal}
-use Rattle.cases.specs.declared.answers.Refusal.{Refusal}
+use Rattle.cases.specs.Refusals.{Refusal, no_refusal}
 use Rattle.semantics.specs.Operations.{first_of}
 use Rattle.semantics.proofs.Refusing.{well_first, well_all}
 use Rattle.support.specs.Proposals.{FirstIn}

@@ -13,9 +13,8 @@ use Rattle.fixpoint.specs.Lists.{any, up_to, all, count}
 use Rattle.fixpoint.proofs.Lists.{bool_ext}
 use Rattle.bitset.specs.Words.{member}
 use Rattle.cases.specs.Case.{Case, shape_rule, references}
-use Rattle.cases.specs.Reading.{no_refusal}
 use Rattle.cases.specs.Rows.{case_in}
-use Rattle.cases.specs.declared.answers.Refusal.{Refusal}
+use Rattle.cases.specs.Refusals.{Refusal, no_refusal}
 use Rattle.cases.specs.declared.command.ShapeRule.{ShapeRule}
 use Rattle.cases.specs.declared.command.ShapeRule.TheVariants.{Top, Node as NodeRule, And, Or, Not, Same, All, AtLeast}
 use Rattle.cases.specs.declared.counts.Counts.{Counts}

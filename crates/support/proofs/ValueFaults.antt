@@ -5,7 +5,7 @@ use mathlib.Core.List.{List}
 use lib.ListN.{length, get_or}
 use borrow.Author.Tests.{leb-true}
 use Rattle.cases.specs.Rows.{case_in}
-use Rattle.cases.specs.declared.answers.Refusal.{Refusal}
+use Rattle.cases.specs.Refusals.{Refusal}
 use Rattle.cases.specs.declared.counts.Counts.{Counts}
 use Rattle.fillers.specs.CaseTables.{Tables}
 use Rattle.fillers.proofs.InTables.{pair_count_is}

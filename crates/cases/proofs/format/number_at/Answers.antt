@@ -10,25 +10,17 @@ pub returns-then-width-eq0 : goal.returns-then-width-eq0
 unfolding number_at
 returns-then-width-eq0 c = search (eq-eqb, ne_eqb, rules)
 
-pub overflow_cast-low : goal.overflow_cast-low
-unfolding number_at
-overflow_cast-low c = omega (arith, c.type_inv.part c.args.at)
-
 pub returns-then-width-eq1 : goal.returns-then-width-eq1
 unfolding number_at
 returns-then-width-eq1 c = search (eq-eqb, ne_eqb, rules)
-
-pub overflow_cast-result : goal.overflow_cast-result
-unfolding number_at
-overflow_cast-result c = omega (arith, c.type_inv.part (c.args.at + 1))
 
 pub overflow_mul-result : goal.overflow_mul-result
 unfolding number_at
 overflow_mul-result c = omega (arith, c.type_inv.part (c.args.at + 1))
 
-pub overflow_add-result-2 : goal.overflow_add-result-2
+pub overflow_add-result : goal.overflow_add-result
 unfolding number_at
-overflow_add-result-2 c = omega (arith, c.type_inv.part c.args.at, c.type_inv.part (c.args.at + 1))
+overflow_add-result c = omega (arith, c.type_inv.part c.args.at, c.type_inv.part (c.args.at + 1))
 
 pub returns : goal.returns
 unfolding number_at

@@ -10,4 +10,4 @@ returns-then-part-end c = search (lt-leb, rules)
 
 pub returns : goal.returns
 unfolding operands_by
-returns c = rw (c.number_at-x.ensures, c.number_at-y.ensures, c.number_at-z.ensures, c.wide.ensures) (search (le-leb, rules))
+returns c = rw (c.number_at-x.ensures, c.number_at-y.ensures, c.number_at-z.ensures) (search (le-leb, rules))
