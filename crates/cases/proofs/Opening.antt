@@ -1,6 +1,6 @@
 -- What a part that is read shows: its rules pass 5, 6 and 7 and fit bytes, and it ends within the input; and the numbers of its refusals.
 -- Assumes nothing.
-use Rattle.std.specs.Prelude.{Option, Some, None}
+use Rattle.std.specs.Prelude.{Some, None}
 use Prim.Native.Nat.{ℕ, zero, suc, ◌+◌, ◌≤◌, ◌<◌}
 use native.Mathlib.Omega.{arith}
 use mathlib.Core.Path.{◌≡◌, refl}
