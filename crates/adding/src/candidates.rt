@@ -52,14 +52,12 @@ pub fn first_unknown(list: &[u8], nodes: usize) -> Refusal
     ensures { result ≡ first_of (up_to (candidate_count list.now)) (unknown_at list.now nodes) }
 {
     let count = list.len() / 5;
-    let mut i = 0;
     // those below i are known
-    while i < count {
+    for i in 0..count {
         let refusal = unknown_at(list, nodes, i);
         if refusal.number != 0 {
             return refusal;
         }
-        i += 1;
     }
     no_refusal()
 }
@@ -69,14 +67,12 @@ pub fn is_candidate_property(list: &[u8], property: usize) -> bool
     ensures { result ≡ of_property list.now property }
 {
     let count = list.len() / 5;
-    let mut i = 0;
     // none of those below i is
-    while i < count {
+    for i in 0..count {
         let edge = edge_of(candidate_row(list, i));
         if edge.property.0 == property {
             return true;
         }
-        i += 1;
     }
     false
 }

@@ -35,11 +35,9 @@ fn choose(list: &[u8], selection: usize, chosen: &mut [u16]) -> usize
 {
     let count = list.len() / 5;
     let mut n = 0;
-    let mut i = 0;
     // the chosen ones below i are there
-    while i < count {
+    for i in 0..count {
         n = choose_if(list, selection, i, n, chosen);
-        i += 1;
     }
     n
 }
@@ -67,11 +65,9 @@ fn lay_edges(edges: usize, slice: &[u16], n: usize, chosen: &[u16], rows: &mut [
     requires behind { Behind slice.now rows.old }
     ensures { EdgesLaid edges slice.now n chosen.now rows.new }
 {
-    let mut i = 0;
     // those below i are there
-    while i < edges {
+    for i in 0..edges {
         put_row(rows, i, unparked_row(row_in(slice, i), n, chosen));
-        i += 1;
     }
 }
 
@@ -83,11 +79,9 @@ fn lay_chosen(edges: usize, slice: &[u16], n: usize, chosen: &[u16], rows: &mut 
     requires edges_laid { EdgesLaid edges slice.now n chosen.now rows.old }
     ensures { ChosenLaid edges slice.now n chosen.now n rows.new }
 {
-    let mut j = 0;
     // the first j of them are there
-    while j < n {
+    for j in 0..n {
         put_row(rows, edges + j, row_in(chosen, j));
-        j += 1;
     }
 }
 
@@ -97,11 +91,9 @@ pub fn copy_behind(slice: &[u16], rows: &mut [u16])
     requires full_2 { Full rows.old }
     ensures { Behind slice.now rows.new }
 {
-    let mut i = PATHS;
     // those below i are there
-    while i < 1340 {
+    for i in PATHS..1340 {
         put_row(rows, i, row_in(slice, i));
-        i += 1;
     }
 }
 

@@ -31,11 +31,9 @@ fn chosen_count(candidates: usize, selection: usize) -> usize
     ensures { result ≡ counting (up_to candidates) (chooses selection) }
 {
     let mut n = 0;
-    let mut i = 0;
     // n of those below i
-    while i < candidates {
+    for i in 0..candidates {
         n += chosen_bit(selection, i);
-        i += 1;
     }
     n
 }
@@ -83,13 +81,11 @@ fn first_key(
 {
     let candidates = list.len() / 5;
     let keys = (candidates + 1) * selection_count(candidates);
-    let mut key = 0;
     // no key below this one is it
-    while key < keys {
+    for key in 0..keys {
         if is_sure(asked, slice, list, key, rows, tables) {
             return key;
         }
-        key += 1;
     }
     keys
 }

@@ -6,7 +6,8 @@ use mathlib.Core.Path.{◌≡◌, refl, sym, ap, ap₂, ◌∙◌}
 use mathlib.Core.Logic.{◌⊎◌, inl, inr, ⊎_elim}
 use mathlib.Core.Bool.{Bool, true, false, cond, not, ◌&&◌, ◌||◌, beq, and-eq-true_iff, or_comm}
 use mathlib.Core.List.{List, [], ◌∷◌}
-use lib.ListN.{length, get_or, set, length-set, get_or-eq_default}
+use lib.ListN.{length, get_or, set, replicate, length-set, get_or-eq_default}
+use Rattle.std.proofs.lemmas.List.{length-replicate, get_or-replicate}
 use lib.Seq.{get_or-set_same, get_or-set_other, ext_get_or}
 use lib.Arith.{digits_div, digits_mod}
 use lib.Bits.{bit_and, bit_or, and_le_l}
@@ -205,15 +206,18 @@ filled_more {g} {n} {i} {t} h v = record {
   long = length-set t i (g i) ∙ v.long;
 }
 
+get_or_zeros : (n i : ℕ) → get_or {A = ℕ} (replicate n 0) i 0 ≡ 0
+get_or_zeros n i =
+    let zeros : List ℕ = replicate n 0 in
+    let long : length zeros ≡ n = length-replicate n 0 in
+    ⊎_elim (λ l. get_or-replicate n i 0 0 l) (λ l. get_or-eq_default zeros 0 (omega arith)) (lt_cases i n)
+
 -- a table of words that are 0 has no members, and one with the words of another is the other
-pub filled_cleared : {t t' : List ℕ} {i : ℕ} → length t' ≤ i → FilledTo (λ k. 0) (length t) i t' → Cleared t t'
+pub zeros_cleared : {t t' : List ℕ} → t' ≡ replicate (length t) 0 → Cleared t t'
 unfolding member
-filled_cleared {t} {t'} {i} h v = record {
-  members = λ w r b.
-      ap (λ x. bit x (b % 64))
-      (⊎_elim (λ l. v.words (r * w + b / 64) (omega arith)) (λ l. get_or-eq_default t' 0 l) (lt_cases (r * w + b / 64) (length t')))
-      ∙ bit_zero (b % 64);
-  long = v.long;
+zeros_cleared {t} {t'} h = record {
+  members = λ w r b. ap (λ x. bit x (b % 64)) (ap (λ l. get_or l (r * w + b / 64) 0) h ∙ get_or_zeros (length t) (r * w + b / 64)) ∙ bit_zero (b % 64);
+  long = ap length h ∙ length-replicate (length t) 0;
 }
 
 pub filled_same : {u t : List ℕ} {i : ℕ} → length t ≤ i → FilledTo (λ k. get_or u k 0) (length u) i t → t ≡ u

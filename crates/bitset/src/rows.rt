@@ -65,11 +65,9 @@ fn join_words(t: &mut [u64], w: usize, into: usize, from: usize)
     requires has_row_2 { HasRow t.old w from }
     ensures { Joined t.old w into from t.new }
 {
-    let mut i = 0;
-    while i < w {
+    for i in 0..w {
         let word = t[into * w + i] | t[from * w + i];
         t[into * w + i] = word;
-        i += 1;
     }
 }
 
@@ -77,11 +75,7 @@ fn join_words(t: &mut [u64], w: usize, into: usize, from: usize)
 pub fn clear(t: &mut [u64])
     ensures { Cleared t.old t.new }
 {
-    let mut i = 0;
-    while i < t.len() {
-        t[i] = 0;
-        i += 1;
-    }
+    t.fill(0);
 }
 
 // Makes n words of t from `at` on those of u from `from` on.
@@ -90,11 +84,9 @@ pub fn copy_words(t: &mut [u64], at: usize, u: &[u64], from: usize, n: usize)
     requires n_in_bounds_2 { from + n ≤ length u.now }
     ensures { WordsCopied u.now from at n t.old t.new }
 {
-    let mut i = 0;
-    while i < n {
+    for i in 0..n {
         let word = u[from + i];
         t[at + i] = word;
-        i += 1;
     }
 }
 
@@ -121,11 +113,9 @@ pub fn join_row(t: &mut [u64], s: usize, u: &[u64], r: usize, w: usize)
     requires has_row_2 { HasRow u.now w r }
     ensures { RowAdded u.now w r s t.old t.new }
 {
-    let mut i = 0;
-    while i < w {
+    for i in 0..w {
         let word = t[s * w + i] | u[r * w + i];
         t[s * w + i] = word;
-        i += 1;
     }
 }
 
@@ -156,13 +146,11 @@ fn subset_words(t: &[u64], r: usize, u: &[u64], s: usize, w: usize) -> bool
     requires has_row_2 { HasRow u.now w s }
     ensures { result ≡ all (up_to (64 * w)) (λ b. not (member t.now w r b) || member u.now w s b) }
 {
-    let mut i = 0;
-    while i < w {
+    for i in 0..w {
         let word = t[r * w + i];
         if word & u[s * w + i] != word {
             return false;
         }
-        i += 1;
     }
     true
 }
@@ -192,12 +180,10 @@ fn same_words(t: &[u64], r: usize, s: usize, w: usize) -> bool
     requires has_row_2 { HasRow t.now w s }
     ensures { result ≡ all (up_to (64 * w)) (λ b. beq (member t.now w r b) (member t.now w s b)) }
 {
-    let mut i = 0;
-    while i < w {
+    for i in 0..w {
         if t[r * w + i] != t[s * w + i] {
             return false;
         }
-        i += 1;
     }
     true
 }
@@ -232,11 +218,9 @@ fn count_words(t: &[u64], r: usize, u: &[u64], s: usize, w: usize) -> usize
     ensures { result ≡ count (up_to (64 * w)) (λ b. member t.now w r b && member u.now w s b) }
 {
     let mut n = 0;
-    let mut i = 0;
-    while i < w {
+    for i in 0..w {
         let common = t[r * w + i] & u[s * w + i];
         n += u64::count_ones(common) as usize;
-        i += 1;
     }
     n
 }

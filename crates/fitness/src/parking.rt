@@ -29,13 +29,11 @@ pub fn is_laid(edge: Edge, edges: usize, rows: &[u16]) -> bool
     requires { 4 * edges ≤ length rows.now }
     ensures { result ≡ laid (map (edge_in rows.now) (up_to edges)) edge }
 {
-    let mut i = 0;
     // none of the edges below i
-    while i < edges {
+    for i in 0..edges {
         if lays(edge_of(row_in(rows, i)), edge) {
             return true;
         }
-        i += 1;
     }
     false
 }

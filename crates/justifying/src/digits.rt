@@ -71,12 +71,10 @@ pub fn fill_digits(levels: &[u8], size: Size, s: Shape, digits: &mut [u64]) -> u
 {
     clear(digits);
     let mut most = 0;
-    let mut a = 0;
-    while a < size.nodes {
+    for a in 0..size.nodes {
         let level = level_at(levels, s.0 * size.nodes + a);
         insert_digits(digits, size.words, a, level);
         most = larger(most, level);
-        a += 1;
     }
     digits_of(most)
 }

@@ -96,13 +96,11 @@ pub fn all_lower(low: Lower, sets: &[u64], row: usize, levels: &[u8], digits: &[
     requires digits_unless { DigitsUnless levels.now low.size low.shape.0 digits.now low.used }
     ensures { result ≡ all (up_to (64 * low.size.words)) (λ b. not (member sets.now low.size.words row b) || is_low levels.now low.bound low.size low.shape.0 b) }
 {
-    let mut i = 0;
-    while i < low.size.words {
+    for i in 0..low.size.words {
         let word = sets[row * low.size.words + i];
         if lower_word(low, word, i, levels, digits) != word {
             return false;
         }
-        i += 1;
     }
     true
 }
@@ -125,11 +123,9 @@ pub fn count_lower(
     ensures { result ≡ count (up_to (64 * low.size.words)) (λ b. member sets.now low.size.words row b && (member set.now low.size.words low.shape.0 b && is_low levels.now low.bound low.size low.shape.0 b)) }
 {
     let mut n = 0;
-    let mut i = 0;
-    while i < low.size.words {
+    for i in 0..low.size.words {
         let word = sets[row * low.size.words + i] & set[low.shape.0 * low.size.words + i];
         n += u64::count_ones(lower_word(low, word, i, levels, digits)) as usize;
-        i += 1;
     }
     n
 }

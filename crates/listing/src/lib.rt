@@ -35,9 +35,8 @@ pub fn print_listing(
 
 // A line for each shape: its number, and its values by node.
 fn print_shapes(nodes: usize, shapes: usize, values: &[u8]) {
-    let mut shape = 0;
     let mut at = 0;
-    while shape < shapes {
+    for shape in 0..shapes {
         if values.len() - at < nodes {
             return;
         }
@@ -45,7 +44,6 @@ fn print_shapes(nodes: usize, shapes: usize, values: &[u8]) {
         print_number(shape);
         print_digits(&values[at..end]);
         at = end;
-        shape += 1;
     }
 }
 
@@ -66,10 +64,8 @@ fn spell(values: &[u8], n: usize, line: &mut [u8])
     requires n_in_bounds { n ≤ length values.now }
     requires n_in_bounds_2 { n + 1 < length line.old }
 {
-    let mut i = 0;
-    while i < n {
+    for i in 0..n {
         line[i + 1] = b'0' + values[i] % 10;
-        i += 1;
     }
     line[n + 1] = b'\n';
 }

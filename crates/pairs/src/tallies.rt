@@ -23,10 +23,8 @@ pub fn tally_of(bytes: &[u8], n: usize, v: Value) -> usize
     ensures { result ≡ tally v.0 (take n bytes.now) }
 {
     let mut count = 0;
-    let mut i = 0;
-    while i < n {
+    for i in 0..n {
         count += one_if(bytes[i], v);
-        i += 1;
     }
     count
 }
@@ -38,10 +36,8 @@ pub fn tally_targets(counts: Counts, rows: &[u16], values: &[u8], v: Value) -> u
     ensures { result ≡ tally v.0 (target_values (case_in counts rows.now) values.now) }
 {
     let mut count = 0;
-    let mut i = 0;
-    while i < counts.targets {
+    for i in 0..counts.targets {
         count += one_if(target_value(counts, rows, i, values), v);
-        i += 1;
     }
     count
 }
@@ -56,11 +52,9 @@ pub fn tally_node(counts: Counts, a: Node, valid: &[u64], possible: &[u64], v: V
 {
     let size = size_of(counts);
     let mut count = 0;
-    let mut s = 0;
-    while s < counts.shapes {
+    for s in 0..counts.shapes {
         let value = value_at(size, Shape(s), a, valid, possible);
         count += one_if(value.0, v);
-        s += 1;
     }
     count
 }

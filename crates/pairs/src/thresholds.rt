@@ -16,12 +16,10 @@ fn fill_row(size: Size, s: Shape, values: &[u8], least: Value, table: &mut [u64]
     requires nodes_in_bounds { s.0 * size.nodes + size.nodes ≤ length values.now }
     ensures { RowAtLeast size s.0 values.now least.0 table.old table.new }
 {
-    let mut a = 0;
-    while a < size.nodes {
+    for a in 0..size.nodes {
         if least.0 <= values[s.0 * size.nodes + a] {
             insert(table, size.words, s.0, a);
         }
-        a += 1;
     }
 }
 
@@ -34,9 +32,7 @@ pub fn fill(counts: Counts, values: &[u8], least: Value, table: &mut [u64])
     ensures { Threshold counts values.now least.0 table.new }
 {
     clear(table);
-    let mut s = 0;
-    while s < counts.shapes {
+    for s in 0..counts.shapes {
         fill_row(size_of(counts), Shape(s), values, least, table);
-        s += 1;
     }
 }

@@ -48,11 +48,9 @@ fn write_row(size: Size, s: Shape, valid: &[u64], possible: &[u64], values: &mut
     ensures { Put (value_in size valid.now possible.now) (s.0 * size.nodes) (s.0 * size.nodes + size.nodes) values.old values.new }
 {
     let base = s.0 * size.nodes;
-    let mut a = 0;
-    while a < size.nodes {
+    for a in 0..size.nodes {
         let value = value_at(size, s, Node(a), valid, possible);
         values[base + a] = value.0;
-        a += 1;
     }
 }
 
@@ -65,10 +63,8 @@ pub fn write_values(counts: Counts, valid: &[u64], possible: &[u64], values: &mu
     ensures { ValuesWritten counts valid.now possible.now values.old values.new }
 {
     let size = size_of(counts);
-    let mut s = 0;
-    while s < counts.shapes {
+    for s in 0..counts.shapes {
         write_row(size, Shape(s), valid, possible, values);
-        s += 1;
     }
 }
 
@@ -91,10 +87,8 @@ pub fn write_verdicts(counts: Counts, rows: &[u16], values: &[u8], verdicts: &mu
     requires targets_in_bounds { counts.targets ≤ length verdicts.old }
     ensures { VerdictsWritten counts rows.now values.now verdicts.old verdicts.new }
 {
-    let mut i = 0;
-    while i < counts.targets {
+    for i in 0..counts.targets {
         let verdict = target_value(counts, rows, i, values);
         verdicts[i] = verdict;
-        i += 1;
     }
 }

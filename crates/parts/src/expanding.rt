@@ -66,11 +66,9 @@ pub fn expand(counts: Counts, fresh: &[u16], count: usize, rows: &mut [u16]) -> 
     let mut next = counts;
     let written = counts.shapes;
     let total = written + count;
-    let mut i = 0;
-    while i < total {
+    for i in 0..total {
         let row = source_row(rows, fresh, written, i);
         put_row(rows, SHAPES + i, renumbered_row(row, written as u16));
-        i += 1;
     }
     next.shapes = total;
     next

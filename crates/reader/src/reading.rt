@@ -29,15 +29,13 @@ fn unknown_shape(shapes: usize, named: &[usize], count: usize) -> Refusal
     requires { 2 * count ≤ length named.now }
     ensures { result ≡ unknown_shape shapes (named_in named.now count) }
 {
-    let mut i = 0;
-    while i < count {
+    for i in 0..count {
         if shapes <= named[2 * i] {
             return Refusal {
                 number: 9,
                 place: named[2 * i + 1],
             };
         }
-        i += 1;
     }
     no_refusal()
 }

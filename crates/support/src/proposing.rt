@@ -22,14 +22,12 @@ pub fn value_fault(values: &[u8], pairs: usize) -> Refusal
     requires { pairs ≤ length values.now }
     ensures { result ≡ value_fault_in values.now pairs }
 {
-    let mut k = 0;
-    while k < pairs {
+    for k in 0..pairs {
         let said = Value::of_byte(values[k]);
         let refusal = refuse(Value::refusal_number(said), k);
         if refusal.number != 0 {
             return refusal;
         }
-        k += 1;
     }
     no_refusal()
 }
@@ -59,15 +57,13 @@ fn unsupported_row(
     requires { ValuesRead of sets.now values.now valid.now possible.now }
     ensures { RowSupported of sets.now values.now result }
 {
-    let mut a = 0;
-    while a < of.size.nodes {
+    for a in 0..of.size.nodes {
         let k = of.shape.0 * of.size.nodes + a;
         let value = pair_value(of, Node(a), sets, values, valid, possible);
         let fault = refuse_unless(values[k] == value.0, 14, k);
         if fault.number != 0 {
             return fault;
         }
-        a += 1;
     }
     no_refusal()
 }
@@ -85,14 +81,12 @@ pub fn support_fault(
     requires proposed { Proposed counts values.now valid.now possible.now }
     ensures { result ≡ support_fault (case_in counts rows.now) values.now }
 {
-    let mut s = 0;
-    while s < counts.shapes {
+    for s in 0..counts.shapes {
         let of = ruled_in(counts, rows, Shape(s));
         let fault = unsupported_row(of, sets, values, valid, possible);
         if fault.number != 0 {
             return fault;
         }
-        s += 1;
     }
     no_refusal()
 }

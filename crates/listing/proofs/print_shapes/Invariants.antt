@@ -4,6 +4,3 @@ use Rattle.listing.proofs.print_shapes.Given as goal
 
 abbrev pub invariant-loop-shape : goal.invariant-loop-shape
 invariant-loop-shape l = l.at ≤ length l.values
-
-abbrev pub decreases-loop-shape : goal.decreases-loop-shape
-decreases-loop-shape l = l.shapes - l.shape

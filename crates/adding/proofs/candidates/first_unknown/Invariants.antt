@@ -6,6 +6,3 @@ use Rattle.adding.proofs.candidates.first_unknown.Given as goal
 
 abbrev pub invariant-loop-i : goal.invariant-loop-i
 invariant-loop-i l = Well (unknown_at l.list l.nodes) l.i
-
-abbrev pub decreases-loop-i : goal.decreases-loop-i
-decreases-loop-i l = l.count - l.i

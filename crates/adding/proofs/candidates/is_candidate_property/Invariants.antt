@@ -5,6 +5,3 @@ use Rattle.adding.proofs.candidates.is_candidate_property.Given as goal
 
 abbrev pub invariant-loop-i : goal.invariant-loop-i
 invariant-loop-i l = NoneOf l.list l.property l.i
-
-abbrev pub decreases-loop-i : goal.decreases-loop-i
-decreases-loop-i l = l.count - l.i

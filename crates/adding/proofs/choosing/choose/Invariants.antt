@@ -7,6 +7,3 @@ use Rattle.adding.proofs.choosing.choose.Given as goal
 
 abbrev pub invariant-loop-i : goal.invariant-loop-i
 invariant-loop-i l = ChosenTo l.list l.selection l.i l.n l.chosen × (length l.chosen ≡ length l.initial.chosen)
-
-abbrev pub decreases-loop-i : goal.decreases-loop-i
-decreases-loop-i l = l.count - l.i

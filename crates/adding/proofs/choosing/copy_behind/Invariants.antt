@@ -5,6 +5,3 @@ use Rattle.adding.proofs.choosing.copy_behind.Given as goal
 
 abbrev pub invariant-loop-i : goal.invariant-loop-i
 invariant-loop-i l = CopiedTo l.i l.slice l.initial.rows l.rows
-
-abbrev pub decreases-loop-i : goal.decreases-loop-i
-decreases-loop-i l = 1340 - l.i

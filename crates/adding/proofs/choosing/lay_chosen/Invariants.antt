@@ -5,6 +5,3 @@ use Rattle.adding.proofs.choosing.lay_chosen.Given as goal
 
 abbrev pub invariant-loop-j : goal.invariant-loop-j
 invariant-loop-j l = LayingChosen l.edges l.slice l.n l.chosen l.initial.rows l.j l.rows
-
-abbrev pub decreases-loop-j : goal.decreases-loop-j
-decreases-loop-j l = l.n - l.j

@@ -5,6 +5,3 @@ use Rattle.adding.proofs.choosing.lay_edges.Given as goal
 
 abbrev pub invariant-loop-i : goal.invariant-loop-i
 invariant-loop-i l = LayingEdges l.edges l.slice l.n l.chosen l.initial.rows l.i l.rows
-
-abbrev pub decreases-loop-i : goal.decreases-loop-i
-decreases-loop-i l = l.edges - l.i

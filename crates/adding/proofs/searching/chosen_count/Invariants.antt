@@ -5,6 +5,3 @@ use Rattle.adding.proofs.searching.chosen_count.Given as goal
 
 abbrev pub invariant-loop-i : goal.invariant-loop-i
 invariant-loop-i l = BitsTo l.candidates l.selection l.i l.n
-
-abbrev pub decreases-loop-i : goal.decreases-loop-i
-decreases-loop-i l = l.candidates - l.i

@@ -18,9 +18,6 @@ is_sure-requires c = search asked_again
 pub returns-then-is_sure : goal.returns-then-is_sure
 returns-then-is_sure c = search searching_found
 
-pub overflow_add-key : goal.overflow_add-key
-overflow_add-key c = search key_room
-
 pub loop-key-preserved : goal.loop-key-preserved
 loop-key-preserved c = (search (searching_more, rules), search)
 

@@ -6,6 +6,3 @@ use Rattle.adding.proofs.searching.first_key.Given as goal
 abbrev pub invariant-loop-key : goal.invariant-loop-key
 invariant-loop-key l =
     SearchingTo l.asked l.slice l.list l.initial.rows l.initial.tables l.keys l.key l.rows l.tables × KeysOf l.list l.keys
-
-abbrev pub decreases-loop-key : goal.decreases-loop-key
-decreases-loop-key l = l.keys - l.key

@@ -5,6 +5,3 @@ use Rattle.bitset.proofs.rows.copy_words.Given as goal
 
 abbrev pub invariant-loop-i : goal.invariant-loop-i
 invariant-loop-i l = (WordsCopied l.u l.from l.at l.i l.initial.t l.t) × (l.i ≤ l.n)
-
-abbrev pub decreases-loop-i : goal.decreases-loop-i
-decreases-loop-i l = l.n - l.i

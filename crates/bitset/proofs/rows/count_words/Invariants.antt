@@ -5,6 +5,3 @@ use Rattle.bitset.proofs.rows.count_words.Given as goal
 
 abbrev pub invariant-loop-i : goal.invariant-loop-i
 invariant-loop-i l = CountedTo l.t l.r l.u l.s l.w l.i l.n
-
-abbrev pub decreases-loop-i : goal.decreases-loop-i
-decreases-loop-i l = l.w - l.i

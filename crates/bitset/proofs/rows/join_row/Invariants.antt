@@ -5,6 +5,3 @@ use Rattle.bitset.proofs.rows.join_row.Given as goal
 
 abbrev pub invariant-loop-i : goal.invariant-loop-i
 invariant-loop-i l = RowAddedTo l.u l.w l.r l.s l.i l.initial.t l.t
-
-abbrev pub decreases-loop-i : goal.decreases-loop-i
-decreases-loop-i l = l.w - l.i

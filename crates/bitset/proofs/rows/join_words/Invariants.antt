@@ -5,6 +5,3 @@ use Rattle.bitset.proofs.rows.join_words.Given as goal
 
 abbrev pub invariant-loop-i : goal.invariant-loop-i
 invariant-loop-i l = JoinedTo l.initial.t l.w l.into l.from l.i l.t
-
-abbrev pub decreases-loop-i : goal.decreases-loop-i
-decreases-loop-i l = l.w - l.i

@@ -7,6 +7,3 @@ use Rattle.bitset.proofs.rows.same_words.Given as goal
 
 abbrev pub invariant-loop-i : goal.invariant-loop-i
 invariant-loop-i l = Passed (λ k. get_or l.t (l.r * l.w + k) 0 ≡ get_or l.t (l.s * l.w + k) 0) l.w l.i
-
-abbrev pub decreases-loop-i : goal.decreases-loop-i
-decreases-loop-i l = l.w - l.i

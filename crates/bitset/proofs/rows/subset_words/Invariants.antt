@@ -9,6 +9,3 @@ use Rattle.bitset.proofs.rows.subset_words.Given as goal
 abbrev pub invariant-loop-i : goal.invariant-loop-i
 invariant-loop-i l =
     Passed (λ k. bit_and (get_or l.t (l.r * l.w + k) 0) (get_or l.u (l.s * l.w + k) 0) ≡ get_or l.t (l.r * l.w + k) 0) l.w l.i
-
-abbrev pub decreases-loop-i : goal.decreases-loop-i
-decreases-loop-i l = l.w - l.i

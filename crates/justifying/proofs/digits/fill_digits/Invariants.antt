@@ -5,6 +5,3 @@ use Rattle.justifying.proofs.digits.fill_digits.Given as goal
 
 abbrev pub invariant-loop-a : goal.invariant-loop-a
 invariant-loop-a l = DigitsFilledTo l.levels l.size l.s.0 l.initial.digits l.digits l.most l.a
-
-abbrev pub decreases-loop-a : goal.decreases-loop-a
-decreases-loop-a l = l.size.nodes - l.a

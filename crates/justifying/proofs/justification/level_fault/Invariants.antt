@@ -5,6 +5,3 @@ use Rattle.justifying.proofs.justification.level_fault.Given as goal
 
 abbrev pub invariant-loop-s : goal.invariant-loop-s
 invariant-loop-s l = JustifiedRows l.counts l.rows l.sets l.valid l.possible l.levels l.pairs l.s
-
-abbrev pub decreases-loop-s : goal.decreases-loop-s
-decreases-loop-s l = l.counts.shapes - l.s

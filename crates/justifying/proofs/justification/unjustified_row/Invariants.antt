@@ -6,6 +6,3 @@ use Rattle.justifying.proofs.justification.unjustified_row.Given as goal
 
 abbrev pub invariant-loop-k : goal.invariant-loop-k
 invariant-loop-k l = JustifiedTo l.by.of l.sets l.valid l.possible l.levels l.pairs l.k
-
-abbrev pub decreases-loop-k : goal.decreases-loop-k
-decreases-loop-k l = l.end - l.k

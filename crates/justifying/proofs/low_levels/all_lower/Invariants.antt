@@ -6,6 +6,3 @@ use Rattle.justifying.proofs.low_levels.all_lower.Given as goal
 
 abbrev pub invariant-loop-i : goal.invariant-loop-i
 invariant-loop-i l = PassedTo (is_low l.levels l.low.bound l.low.size l.low.shape.0) l.sets l.row l.low.size.words l.i
-
-abbrev pub decreases-loop-i : goal.decreases-loop-i
-decreases-loop-i l = l.low.size.words - l.i

@@ -7,6 +7,3 @@ use Rattle.justifying.proofs.low_levels.count_lower.Given as goal
 abbrev pub invariant-loop-i : goal.invariant-loop-i
 invariant-loop-i l =
     PassingTo (is_low l.levels l.low.bound l.low.size l.low.shape.0) l.sets l.row l.set l.low.shape.0 l.low.size.words l.i l.n
-
-abbrev pub decreases-loop-i : goal.decreases-loop-i
-decreases-loop-i l = l.low.size.words - l.i

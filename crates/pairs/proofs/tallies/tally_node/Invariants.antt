@@ -4,7 +4,4 @@ use Rattle.pairs.proofs.Tallying.{node_value_at, Tallied}
 use Rattle.pairs.proofs.tallies.tally_node.Given as goal
 
 abbrev pub invariant-loop-s : goal.invariant-loop-s
-invariant-loop-s l = Tallied (node_value_at l.counts l.a.0 l.valid l.possible) l.v.0 l.counts.shapes l.s l.count
-
-abbrev pub decreases-loop-s : goal.decreases-loop-s
-decreases-loop-s l = l.counts.shapes - l.s
+invariant-loop-s l = Tallied (node_value_at l.fn.counts l.a.0 l.valid l.possible) l.v.0 l.fn.counts.shapes l.s l.count

@@ -6,6 +6,3 @@ use Rattle.pairs.proofs.tallies.tally_of.Given as goal
 
 abbrev pub invariant-loop-i : goal.invariant-loop-i
 invariant-loop-i l = Tallied (λ k. get_or l.bytes k 0) l.v.0 l.n l.i l.count
-
-abbrev pub decreases-loop-i : goal.decreases-loop-i
-decreases-loop-i l = l.n - l.i

@@ -5,6 +5,3 @@ use Rattle.pairs.proofs.tallies.tally_targets.Given as goal
 
 abbrev pub invariant-loop-i : goal.invariant-loop-i
 invariant-loop-i l = Tallied (verdict_at l.counts l.rows l.values) l.v.0 l.counts.targets l.i l.count
-
-abbrev pub decreases-loop-i : goal.decreases-loop-i
-decreases-loop-i l = l.counts.targets - l.i

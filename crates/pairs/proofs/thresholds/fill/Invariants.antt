@@ -5,6 +5,3 @@ use Rattle.pairs.proofs.thresholds.fill.Given as goal
 
 abbrev pub invariant-loop-s : goal.invariant-loop-s
 invariant-loop-s l = ThresholdTo l.counts l.values l.least.0 l.s l.initial.table l.table
-
-abbrev pub decreases-loop-s : goal.decreases-loop-s
-decreases-loop-s l = l.counts.shapes - l.s

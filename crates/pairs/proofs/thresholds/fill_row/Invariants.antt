@@ -5,6 +5,3 @@ use Rattle.pairs.proofs.thresholds.fill_row.Given as goal
 
 abbrev pub invariant-loop-a : goal.invariant-loop-a
 invariant-loop-a l = RowAtLeastTo l.size l.s.0 l.values l.least.0 l.a l.initial.table l.table
-
-abbrev pub decreases-loop-a : goal.decreases-loop-a
-decreases-loop-a l = l.size.nodes - l.a

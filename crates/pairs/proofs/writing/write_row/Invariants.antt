@@ -5,6 +5,3 @@ use Rattle.pairs.proofs.writing.write_row.Given as goal
 
 abbrev pub invariant-loop-a : goal.invariant-loop-a
 invariant-loop-a l = RowTo l.size l.valid l.possible l.s.0 l.a l.initial.values l.values
-
-abbrev pub decreases-loop-a : goal.decreases-loop-a
-decreases-loop-a l = 64 * l.size.words - l.a

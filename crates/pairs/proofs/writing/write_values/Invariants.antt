@@ -4,7 +4,4 @@ use Rattle.pairs.proofs.Valued.{RowsTo}
 use Rattle.pairs.proofs.writing.write_values.Given as goal
 
 abbrev pub invariant-loop-s : goal.invariant-loop-s
-invariant-loop-s l = RowsTo l.counts l.valid l.possible l.s l.initial.values l.values
-
-abbrev pub decreases-loop-s : goal.decreases-loop-s
-decreases-loop-s l = l.counts.shapes - l.s
+invariant-loop-s l = RowsTo l.fn.counts l.valid l.possible l.s l.initial.values l.values

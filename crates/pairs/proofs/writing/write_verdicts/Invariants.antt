@@ -5,6 +5,3 @@ use Rattle.pairs.proofs.writing.write_verdicts.Given as goal
 
 abbrev pub invariant-loop-i : goal.invariant-loop-i
 invariant-loop-i l = VerdictsTo l.counts l.rows l.values l.i l.initial.verdicts l.verdicts
-
-abbrev pub decreases-loop-i : goal.decreases-loop-i
-decreases-loop-i l = l.counts.targets - l.i

@@ -9,6 +9,3 @@ use Rattle.reader.proofs.reading.unknown_shape.Given as goal
 abbrev pub invariant-loop-i : goal.invariant-loop-i
 invariant-loop-i l =
     (l.i ≤ l.count) × (unknown_shape l.shapes (named_in l.named l.count) ≡ unknown_shape l.shapes (drop l.i (named_in l.named l.count)))
-
-abbrev pub decreases-loop-i : goal.decreases-loop-i
-decreases-loop-i l = l.count - l.i

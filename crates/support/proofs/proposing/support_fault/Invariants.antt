@@ -5,6 +5,3 @@ use Rattle.support.proofs.proposing.support_fault.Given as goal
 
 abbrev pub invariant-loop-s : goal.invariant-loop-s
 invariant-loop-s l = SupportedRows l.counts l.rows l.sets l.values l.s
-
-abbrev pub decreases-loop-s : goal.decreases-loop-s
-decreases-loop-s l = l.counts.shapes - l.s

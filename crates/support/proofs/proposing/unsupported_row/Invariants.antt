@@ -5,6 +5,3 @@ use Rattle.support.proofs.proposing.unsupported_row.Given as goal
 
 abbrev pub invariant-loop-a : goal.invariant-loop-a
 invariant-loop-a l = SupportedTo l.of l.sets l.values l.a
-
-abbrev pub decreases-loop-a : goal.decreases-loop-a
-decreases-loop-a l = l.of.size.nodes - l.a
