@@ -1,5 +1,5 @@
 -- Bits of words, membership in the rows of a table of w words a row, and what the functions on rows leave. Assumes nothing.
-use Rattle.std.specs.Prelude.{ℕ, ◌+◌, ◌-◌, ◌*◌, ◌/◌, ◌%◌, ◌^◌, ◌<◌, ◌≤◌, ◌≡◌, Bool, true, false, cond, not, ◌&&◌, ◌||◌, List, length, get_or, eqb, ltb}
+use Rattle.std.specs.Prelude.{ℕ, ◌+◌, ◌-◌, ◌*◌, ◌/◌, ◌%◌, ◌^◌, ◌<◌, ◌≤◌, ◌≡◌, Bool, true, false, cond, not, ◌&&◌, ◌||◌, List, length, get_or, Option, Some, None, eqb, ltb}
 use Rattle.fixpoint.specs.Entries.{Put}
 
 -- bit j of a word
@@ -44,6 +44,16 @@ pub record WithoutBit (x j y : ℕ) : Type 0 where
 pub record Lowest (x j : ℕ) : Type 0 where
   pub below : j < 64
   pub there : bit x j ≡ true
+
+-- a bit of a word, and the word without it
+pub record Taken (x j y : ℕ) : Type 0 where
+  pub lowest : Lowest x j
+  pub without : WithoutBit x j y
+
+-- a bit is taken from a word, or none is left
+abbrev pub BitTaken : ℕ → Option ℕ → ℕ → Type 0
+BitTaken x None y = x ≡ 0
+BitTaken x (Some j) y = Taken x j y
 
 -- the bits of x below n
 pub record BitsBelow (x n y : ℕ) : Type 0 where

@@ -2,4 +2,5 @@
 #![tactic(auto)]
 
 pub mod rows;
+pub mod taking;
 pub mod words;
