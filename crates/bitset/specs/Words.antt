@@ -46,14 +46,14 @@ pub record Lowest (x j : ℕ) : Type 0 where
   pub there : bit x j ≡ true
 
 -- a bit of a word, and the word without it
-pub record Taken (x j y : ℕ) : Type 0 where
+pub record TakenBit (x j y : ℕ) : Type 0 where
   pub lowest : Lowest x j
   pub without : WithoutBit x j y
 
 -- a bit is taken from a word, or none is left
 abbrev pub BitTaken : ℕ → Option ℕ → ℕ → Type 0
 BitTaken x None y = x ≡ 0
-BitTaken x (Some j) y = Taken x j y
+BitTaken x (Some j) y = TakenBit x j y
 
 -- the bits of x below n
 pub record BitsBelow (x n y : ℕ) : Type 0 where

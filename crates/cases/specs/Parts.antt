@@ -4,14 +4,14 @@ use Rattle.cases.specs.declared.command.Row.{Row}
 use Rattle.cases.specs.declared.command.ShapeRule.{ShapeRule}
 use Rattle.cases.specs.declared.command.ShapeRule.TheVariants.{Top, Node, And, Or, Not, Same, All, AtLeast}
 use Rattle.cases.specs.declared.format.Format.{Format}
-use Rattle.cases.specs.declared.heads.Head.{Head as FoundHead}
+use Rattle.cases.specs.declared.heads.PartHead.{PartHead}
 use Rattle.cases.specs.declared.heads.Opens.{Opens}
 use Rattle.cases.specs.declared.heads.Opens.TheVariants.{Name as OpensName, Alone as OpensAlone, One as OpensOne, Two as OpensTwo, AtMost as OpensAtMost}
 use Rattle.cases.specs.declared.refusals.Fault.{Fault}
 use Rattle.cases.specs.Case.{references}
 use Rattle.cases.specs.Faults.{shape_nodes_known, shape_paths_earlier, shape_least_positive}
 use Rattle.cases.specs.Format.{width_by, operands_by, missing, shape_rule_of}
-use Rattle.cases.specs.Refusals.{number}
+use Rattle.cases.specs.Refusals.{fault_number}
 
 -- ---- The head of a part: 1, 3, 5, 6 and 7
 
@@ -50,9 +50,9 @@ head_opens OpensOne = One
 head_opens OpensTwo = Two
 head_opens OpensAtMost = AtMost
 
-abbrev pub head_says : Result FoundHead Fault → Head
+abbrev pub head_says : Result PartHead Fault → Head
 head_says (Ok x) = head_opens x.opens x.row x.width
-head_says (Err fault) = Refused (number fault)
+head_says (Err fault) = Refused (fault_number fault)
 
 -- what follows, unless a test fails
 abbrev pub open_unless : Bool → ℕ → Head → Head

@@ -6,14 +6,14 @@ use Rattle.cases.specs.declared.command.Command.TheVariants.{Nodes, End}
 use Rattle.cases.specs.declared.command.Command.TheVariants.{Edge as EdgeCommand, Path as PathCommand, Shape as ShapeCommand, Target as TargetCommand}
 use Rattle.cases.specs.declared.command.Edge.{Edge}
 use Rattle.cases.specs.declared.command.Row.{Row}
-use Rattle.cases.specs.declared.answers.Heading.{Heading as SaidHeading}
+use Rattle.cases.specs.declared.answers.Preamble.{Preamble}
 use Rattle.cases.specs.declared.answers.Reading.{Reading}
-use Rattle.cases.specs.Refusals.{number, Refusal, no_refusal}
-use Rattle.cases.specs.declared.answers.Step.{Step as FoundStep}
+use Rattle.cases.specs.Refusals.{fault_number, Refusal, no_refusal}
+use Rattle.cases.specs.declared.answers.Accepted.{Accepted}
 use Rattle.cases.specs.declared.answers.Taken.{Taken}
 use Rattle.cases.specs.declared.counts.Counts.{Counts}
 use Rattle.cases.specs.declared.refusals.Fault.{Fault as Faulted}
-use Rattle.cases.specs.declared.refusals.Refusal.{Refusal as Refused_at}
+use Rattle.cases.specs.declared.refusals.Refused.{Refused as RefusedAt}
 use Rattle.cases.specs.Case.{Case, empty_case, counts_of, references}
 use Rattle.cases.specs.Counts.{is_profile, shape_limit}
 use Rattle.cases.specs.Faults.{in_order, within_limit, nodes_known, paths_earlier, least_positive, edge_there}
@@ -41,9 +41,9 @@ heading_of s =
     (HeadingIs 0 0)
 
 -- what the code answers for it
-abbrev pub heading_says : Result SaidHeading Faulted → Heading
+abbrev pub heading_says : Result Preamble Faulted → Heading
 heading_says (Ok x) = HeadingIs x.profile x.width
-heading_says (Err fault) = HeadingRefused (number fault)
+heading_says (Err fault) = HeadingRefused (fault_number fault)
 
 -- the profile of an input, 0 where it is refused
 abbrev pub heading_profile : Heading → ℕ
@@ -84,9 +84,9 @@ step_at profile last counts s =
     (judged profile counts (command_at s) (row_of s) (taken_of (get_or s 0 0)))))
 
 -- what the code answers for it
-abbrev pub step_says : Result FoundStep Faulted → Step
+abbrev pub step_says : Result Accepted Faulted → Step
 step_says (Ok x) = Is x.command x.row x.taken
-step_says (Err fault) = Refused (number fault)
+step_says (Err fault) = Refused (fault_number fault)
 
 -- ---- What has been read
 
@@ -330,5 +330,5 @@ abbrev pub reading_of : Counts → Reading
 reading_of k =
     record { number = 0; place = 0; nodes = k.nodes; edges = k.edges; paths = k.paths; shapes = k.shapes; targets = k.targets }
 
-abbrev pub reading_refused : Refused_at → Reading
-reading_refused r = record { number = number r.fault; place = r.place; nodes = 0; edges = 0; paths = 0; shapes = 0; targets = 0 }
+abbrev pub reading_refused : RefusedAt → Reading
+reading_refused r = record { number = fault_number r.fault; place = r.place; nodes = 0; edges = 0; paths = 0; shapes = 0; targets = 0 }

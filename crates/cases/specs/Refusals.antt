@@ -6,35 +6,35 @@ use Rattle.cases.specs.declared.refusals.Fault.TheVariants.{UnknownCommand, OutO
 use Rattle.cases.specs.declared.refusals.Fault.TheVariants.{BehindEnd, UnknownShape, ShortValues, ShortLevels, ShortVerdicts, NoValue, Unsupported}
 use Rattle.cases.specs.declared.refusals.Fault.TheVariants.{Unjustified, ShortStrata, OwnDenial, TooDeep, TooManyShapes, NeverLaid, UnknownPair}
 use Rattle.cases.specs.declared.refusals.Fault.TheVariants.{UnknownProfile, UnfitList, NotInCase, NoneSuffices}
-use Rattle.cases.specs.declared.refusals.Refusal.{Refusal as Refused}
+use Rattle.cases.specs.declared.refusals.Refused.{Refused}
 
 -- the documents' number of each fault
-abbrev pub number : Fault → ℕ
-number UnknownCommand = 1
-number OutOfOrder = 2
-number Incomplete = 3
-number BeyondLimit = 4
-number UnknownNode = 5
-number UnknownPath = 6
-number LeastZero = 7
-number BehindEnd = 8
-number UnknownShape = 9
-number ShortValues = 10
-number ShortLevels = 11
-number ShortVerdicts = 12
-number NoValue = 13
-number Unsupported = 14
-number Unjustified = 15
-number ShortStrata = 16
-number OwnDenial = 17
-number TooDeep = 18
-number TooManyShapes = 19
-number NeverLaid = 20
-number UnknownPair = 21
-number UnknownProfile = 22
-number UnfitList = 23
-number NotInCase = 24
-number NoneSuffices = 25
+abbrev pub fault_number : Fault → ℕ
+fault_number UnknownCommand = 1
+fault_number OutOfOrder = 2
+fault_number Incomplete = 3
+fault_number BeyondLimit = 4
+fault_number UnknownNode = 5
+fault_number UnknownPath = 6
+fault_number LeastZero = 7
+fault_number BehindEnd = 8
+fault_number UnknownShape = 9
+fault_number ShortValues = 10
+fault_number ShortLevels = 11
+fault_number ShortVerdicts = 12
+fault_number NoValue = 13
+fault_number Unsupported = 14
+fault_number Unjustified = 15
+fault_number ShortStrata = 16
+fault_number OwnDenial = 17
+fault_number TooDeep = 18
+fault_number TooManyShapes = 19
+fault_number NeverLaid = 20
+fault_number UnknownPair = 21
+fault_number UnknownProfile = 22
+fault_number UnfitList = 23
+fault_number NotInCase = 24
+fault_number NoneSuffices = 25
 
 abbrev pub refused_at : Fault → ℕ → Refused
 refused_at fault place = record { fault = fault; place = place }
@@ -48,15 +48,15 @@ abbrev pub no_refusal : Refusal
 no_refusal = record { number = 0; place = 0 }
 
 -- what a refusal says
-abbrev pub says : Refused → Refusal
-says r = record { number = number r.fault; place = r.place }
+abbrev pub refusal_says : Refused → Refusal
+refusal_says r = record { number = fault_number r.fault; place = r.place }
 
 -- the refusal that an answer is, if it is one
 abbrev pub refusal_in : {A : Type 0} → Result A Refused → Refusal
 refusal_in (Ok x) = no_refusal
-refusal_in (Err r) = says r
+refusal_in (Err r) = refusal_says r
 
 -- the number that it is, where the place is known
-abbrev pub number_in : {A : Type 0} → Result A Fault → ℕ
-number_in (Ok x) = 0
-number_in (Err fault) = number fault
+abbrev pub fault_in : {A : Type 0} → Result A Fault → ℕ
+fault_in (Ok x) = 0
+fault_in (Err fault) = fault_number fault

@@ -4,11 +4,11 @@ ghost use Rattle.cases.specs.Reading.{reading_of, reading_refused};
 
 use crate::command::{Command, Row};
 use crate::counts::Counts;
-use crate::refusals::Refusal;
+use crate::refusals::Refused;
 
 // What the input begins with: the profile and how many bytes say it.
 #[derive(Clone, Copy)]
-pub struct Heading {
+pub struct Preamble {
     pub profile: usize,
     pub width: usize,
 }
@@ -22,7 +22,7 @@ pub struct Taken {
 
 // What reading finds where a command should start, where it is not refused: a command, its row and what it takes.
 #[derive(Clone, Copy)]
-pub struct Step {
+pub struct Accepted {
     pub command: Command,
     pub row: Row,
     pub taken: Taken,
@@ -57,8 +57,8 @@ impl From<Counts> for Reading {
     }
 }
 
-impl From<Refusal> for Reading {
-    fn from(refusal: Refusal) -> Reading
+impl From<Refused> for Reading {
+    fn from(refusal: Refused) -> Reading
         ensures { result ≡ reading_refused refusal }
     {
         Reading {

@@ -14,7 +14,7 @@ pub enum Opens {
 // What stands where a part opens: its row, of a rule's shape operands 0 where they are inner parts, for an at most that of the at least behind
 // it, and how many bytes the head takes.
 #[derive(Clone, Copy)]
-pub struct Head {
+pub struct PartHead {
     pub opens: Opens,
     pub row: Row,
     pub width: usize,

@@ -1,6 +1,6 @@
 // Refusals: what is at fault, by the numbers of the scope and the requests, and where.
 ghost use Rattle.std.specs.Prelude.{◌≡◌};
-ghost use Rattle.cases.specs.Refusals.{number, refused_at};
+ghost use Rattle.cases.specs.Refusals.{fault_number, refused_at};
 
 // What is at fault, in the order of the numbers. 10, 11, 12 and 16 are of lent tables that are too short; 24 is of a target or of a candidate's node.
 #[derive(Clone, Copy, PartialEq, Eq)]
@@ -34,22 +34,22 @@ pub enum Fault {
 
 impl Fault {
     pub fn number(self) -> usize
-        ensures { result ≡ number self }
+        ensures { result ≡ fault_number self }
     {
         self as usize
     }
 
     // This fault at a place.
-    pub fn at(self, place: usize) -> Refusal
+    pub fn at(self, place: usize) -> Refused
         ensures { result ≡ refused_at self place }
     {
-        Refusal { fault: self, place }
+        Refused { fault: self, place }
     }
 }
 
 // What a call that refuses answers: what is at fault, and its place.
 #[derive(Clone, Copy, PartialEq, Eq)]
-pub struct Refusal {
+pub struct Refused {
     pub fault: Fault,
     pub place: usize,
 }
