@@ -2,9 +2,10 @@
 // refusal, 0 for none, then the counts or the selection, 0 on a refusal; the code of the old check is no count.
 ghost use Rattle.std.specs.Prelude.{◌≡◌};
 ghost use Rattle.semantics.specs.OldCode.{with_old_code};
+ghost use Rattle.cases.specs.Refusals.{no_refusal, refusal_says};
 ghost use Rattle.semantics.specs.Answered.{refused_solution, refused_checked, refused_totals, ranked_by, fewest_by, solved_with};
 
-use cases::answers::Refusal;
+use cases::refusals::Refused;
 
 // How many pairs are valid and undetermined, and how many targets sure, open and impossible.
 #[derive(Clone, Copy)]
@@ -29,13 +30,13 @@ pub struct Solution {
     pub impossible: usize,
 }
 
-impl Solution {
-    pub fn refused(refusal: Refusal) -> Solution
-        ensures { result ≡ refused_solution refusal }
+impl From<Refused> for Solution {
+    fn from(refused: Refused) -> Solution
+        ensures { result ≡ refused_solution (refusal_says refused) }
     {
         Solution {
-            number: refusal.number,
-            place: refusal.place,
+            number: refused.fault.number(),
+            place: refused.place,
             rounds: 0,
             valid: 0,
             undetermined: 0,
@@ -44,7 +45,9 @@ impl Solution {
             impossible: 0,
         }
     }
+}
 
+impl Solution {
     pub fn solved(rounds: usize, tally: Tally) -> Solution
         ensures { result ≡ solved_with rounds tally }
     {
@@ -70,28 +73,15 @@ pub struct Checked {
     pub valid: usize,
 }
 
-impl Checked {
-    pub fn refused(refusal: Refusal) -> Checked
-        ensures { result ≡ refused_checked refusal }
+impl From<Refused> for Checked {
+    fn from(refused: Refused) -> Checked
+        ensures { result ≡ refused_checked (refusal_says refused) }
     {
         Checked {
-            number: refusal.number,
-            place: refusal.place,
+            number: refused.fault.number(),
+            place: refused.place,
             undetermined: 0,
             valid: 0,
-        }
-    }
-
-    // Under the old code: the same, and the byte 1.
-    pub fn under_old_code(self) -> CheckedOld
-        ensures { result ≡ with_old_code self }
-    {
-        CheckedOld {
-            number: self.number,
-            place: self.place,
-            undetermined: self.undetermined,
-            valid: self.valid,
-            code: 1,
         }
     }
 }
@@ -106,6 +96,21 @@ pub struct CheckedOld {
     pub code: usize,
 }
 
+// Under the old code: the same, and the byte 1.
+impl From<Checked> for CheckedOld {
+    fn from(checked: Checked) -> CheckedOld
+        ensures { result ≡ with_old_code checked }
+    {
+        CheckedOld {
+            number: checked.number,
+            place: checked.place,
+            undetermined: checked.undetermined,
+            valid: checked.valid,
+            code: 1,
+        }
+    }
+}
+
 #[repr(C)]
 #[derive(Clone, Copy)]
 pub struct Ranked {
@@ -114,14 +119,25 @@ pub struct Ranked {
     pub strata: usize,
 }
 
-impl Ranked {
-    // The answer that goes with a refusal, or with none.
-    pub fn by(refusal: Refusal, strata: usize) -> Ranked
-        ensures { result ≡ ranked_by refusal strata }
+impl From<Refused> for Ranked {
+    fn from(refused: Refused) -> Ranked
+        ensures { result ≡ ranked_by (refusal_says refused) 0 }
     {
         Ranked {
-            number: refusal.number,
-            place: refusal.place,
+            number: refused.fault.number(),
+            place: refused.place,
+            strata: 0,
+        }
+    }
+}
+
+impl Ranked {
+    pub fn ranked(strata: usize) -> Ranked
+        ensures { result ≡ ranked_by no_refusal strata }
+    {
+        Ranked {
+            number: 0,
+            place: 0,
             strata,
         }
     }
@@ -136,13 +152,13 @@ pub struct Totals {
     pub undetermined: usize,
 }
 
-impl Totals {
-    pub fn refused(refusal: Refusal) -> Totals
-        ensures { result ≡ refused_totals refusal }
+impl From<Refused> for Totals {
+    fn from(refused: Refused) -> Totals
+        ensures { result ≡ refused_totals (refusal_says refused) }
     {
         Totals {
-            number: refusal.number,
-            place: refusal.place,
+            number: refused.fault.number(),
+            place: refused.place,
             valid: 0,
             undetermined: 0,
         }
@@ -157,14 +173,25 @@ pub struct Fewest {
     pub selection: usize,
 }
 
-impl Fewest {
-    // The answer that goes with a refusal, or with none.
-    pub fn by(refusal: Refusal, selection: usize) -> Fewest
-        ensures { result ≡ fewest_by refusal selection }
+impl From<Refused> for Fewest {
+    fn from(refused: Refused) -> Fewest
+        ensures { result ≡ fewest_by (refusal_says refused) 0 }
     {
         Fewest {
-            number: refusal.number,
-            place: refusal.place,
+            number: refused.fault.number(),
+            place: refused.place,
+            selection: 0,
+        }
+    }
+}
+
+impl Fewest {
+    pub fn selected(selection: usize) -> Fewest
+        ensures { result ≡ fewest_by no_refusal selection }
+    {
+        Fewest {
+            number: 0,
+            place: 0,
             selection,
         }
     }

@@ -23,8 +23,7 @@ use Rattle.cases.specs.declared.numbers.Shape.{Shape}
 use Rattle.cases.specs.declared.numbers.Path.{Path}
 use Rattle.fillers.specs.CaseTables.{Tables}
 use Rattle.fillers.proofs.InTables.{pair_count_is}
-use Rattle.semantics.specs.declared.value.Said.{Said}
-use Rattle.semantics.specs.declared.value.Said.TheVariants.{Is, Above}
+use Rattle.semantics.specs.Values.{Said, Is, Above}
 use Rattle.semantics.specs.declared.value.Value.{Value}
 use Rattle.semantics.specs.OldCode.{support_fault}
 use Rattle.semantics.specs.Operations.{refuse_unless}

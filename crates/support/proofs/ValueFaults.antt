@@ -12,7 +12,7 @@ use Rattle.fillers.proofs.InTables.{pair_count_is}
 use Rattle.pairs.specs.Sets.{Threshold}
 use Rattle.semantics.specs.Operations.{or_else, refuse, value_fault}
 use Rattle.semantics.specs.Values.{byte_says, said_number, is_value}
-use Rattle.semantics.specs.declared.value.Said.{Said}
+use Rattle.semantics.specs.Values.{Said, Is, Above}
 use Rattle.semantics.proofs.Refusing.{or_else_next, or_else_this, refuse_none, well_of}
 use Rattle.support.specs.Proposals.{value_fault_in, ProposedUnless}
 
