@@ -71,7 +71,7 @@ pub enum Certainty {
 pub fn held_value(byte: u8) -> Value
     ensures { result.0 ≡ min byte 2 }
 {
-    Value::try_from(byte).unwrap_or(Value::VALID)
+    Value::of_byte(byte).unwrap_or(Value::VALID)
 }
 
 // By the value of a pair so far, and whether the end is reached.
