@@ -24,7 +24,7 @@ pub fn value_fault(values: &[u8], pairs: usize) -> Result<(), Refused>
     ensures { refusal_in result ≡ value_fault_in values.now pairs }
 {
     for k in 0..pairs {
-        Value::try_from(values[k]).map_err(|fault| fault.at(k))?;
+        Value::of_byte(values[k]).map_err(|fault| fault.at(k))?;
     }
     Ok(())
 }

@@ -19,7 +19,7 @@ fn value_at(values: &[u8], size: Size, s: Shape, a: Node) -> Value
     requires a_bound { get_or values.now (s.0 * size.nodes + a.0) 0 ≤ 2 }
     ensures { result.0 ≡ get_or values.now (s.0 * size.nodes + a.0) 0 }
 {
-    Value::try_from(values[s.0 * size.nodes + a.0]).unwrap_or(Value::VIOLATED)
+    Value::of_byte(values[s.0 * size.nodes + a.0]).unwrap_or(Value::VIOLATED)
 }
 
 // The rule's value at node a, which is live.
