@@ -13,7 +13,7 @@ use mir.Val.{Fits}
 use borrow.Author.Tests.{ne_eqb, ltb-true, lt-ltb, le-ltb, leb-true}
 use Rattle.cases.specs.Case.{Case}
 use Rattle.cases.specs.Rows.{case_in, target_in}
-use Rattle.cases.specs.declared.answers.Parsed.{Parsed}
+use Rattle.reader.specs.Parsing.{Parsed}
 use Rattle.cases.specs.Refusals.{Refusal, no_refusal}
 use Rattle.cases.specs.declared.command.Target.{Target}
 use Rattle.cases.specs.declared.counts.Counts.{Counts}

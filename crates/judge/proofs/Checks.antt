@@ -8,7 +8,7 @@ use lib.ListN.{length}
 use lib.Dec.{leb}
 use borrow.Author.Tests.{leb-true}
 use Rattle.cases.specs.Rows.{case_in}
-use Rattle.cases.specs.declared.answers.Parsed.{Parsed}
+use Rattle.reader.specs.Parsing.{Parsed}
 use Rattle.cases.specs.Refusals.{Refusal}
 use Rattle.cases.specs.declared.counts.Counts.{Counts}
 use Rattle.reader.specs.Parsing.{ParsedAs}

@@ -7,7 +7,7 @@ use lib.ListN.{length}
 use lib.Dec.{leb}
 use borrow.Author.Tests.{ne_eqb, leb-true}
 use Rattle.cases.specs.Rows.{case_in, CaseIn}
-use Rattle.cases.specs.declared.answers.Parsed.{Parsed}
+use Rattle.reader.specs.Parsing.{Parsed}
 use Rattle.cases.specs.Refusals.{Refusal}
 use Rattle.cases.specs.declared.counts.Counts.{Counts}
 use Rattle.cases.proofs.InRows.{shapes_in, shape_rule_in}

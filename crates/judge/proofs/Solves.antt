@@ -10,7 +10,7 @@ use lib.Dec.{leb}
 use borrow.Author.Tests.{ne_eqb, leb-true}
 use Rattle.cases.specs.Counts.{words_of}
 use Rattle.cases.specs.Rows.{case_in}
-use Rattle.cases.specs.declared.answers.Parsed.{Parsed}
+use Rattle.reader.specs.Parsing.{Parsed}
 use Rattle.cases.specs.Refusals.{Refusal, no_refusal}
 use Rattle.cases.specs.declared.counts.Counts.{Counts}
 use Rattle.reader.specs.Parsing.{ParsedAs}
