@@ -195,33 +195,6 @@ module _ {m : ℕ} {slice : List ℕ} {n : ℕ} {picked before : List ℕ} where
   pub behind_edges_done : {j : ℕ} {rows : List ℕ} → n ≤ j → LayingChosen m slice n picked before j rows → ChosenLaid m slice n picked n rows
   behind_edges_done {j} a v = let e : j ≡ n = omega (arith, v.most) in rw e at v.laid
 
--- ---- The rows that are no edges'
-
--- those below i are copied
-pub record CopiedTo (i : ℕ) (slice before rows : List ℕ) : Type 0 where
-  pub others : (j : ℕ) → 1036 ≤ j → j < i → row_in rows j ≡ row_in slice j
-  pub full : Full rows
-  pub long : length rows ≡ length before
-
-module _ {slice before : List ℕ} where
-  pub behind_none : Full before → CopiedTo 1036 slice before before
-  behind_none f = record { others = λ j a b. absurd (omega arith); full = f; long = refl }
-
-  pub behind_more : {i : ℕ} {rows rows' : List ℕ} {row : Row} → i < 1340 → CopiedTo i slice before rows → row ≡ row_in slice i → rows' ≡ put_row rows i row
-      → CopiedTo (i + 1) slice before rows'
-  behind_more {i} {rows} {row = row} h v e g = rw g (record {
-    others = λ j a b.
-        ⊎_elim
-        (λ l. put_row_other rows i row j (λ z. omega arith) ∙ v.others j a l)
-        (λ l. let z : j ≡ i = omega arith in rw z (put_row_there rows i row (omega (arith, v.full.fits)) ∙ e))
-        (lt_cases j i);
-    full = record { fits = omega (arith, v.full.fits, length_put_row rows i row) };
-    long = length_put_row rows i row ∙ v.long;
-  })
-
-  pub behind_done : {i : ℕ} {rows : List ℕ} → 1340 ≤ i → CopiedTo i slice before rows → Behind slice rows
-  behind_done h v = record { others = λ j a b. v.others j a (omega arith); full = v.full }
-
 -- ---- The case that the rows hold
 
 rows_with : (counts : Counts) (list : List ℕ) (selection : ℕ) {slice picked rows : List ℕ} {n : ℕ} → Fit counts → length list ≤ 60

@@ -10,7 +10,7 @@ use crate::candidates::candidate_row;
 use bitset::words::has_bit;
 use cases::command::{LAID, Row, edge_of};
 use cases::counts::Counts;
-use cases::rows::{PATHS, put_row, row_in};
+use cases::rows::{put_row, row_in};
 use fitness::parking::is_laid;
 
 // Puts candidate i behind the n chosen ones before it if it is chosen, and answers how many they are now.
@@ -85,18 +85,6 @@ fn lay_chosen(edges: usize, slice: &[u16], n: usize, chosen: &[u16], rows: &mut 
     }
 }
 
-// Copies the rows that are no edges'.
-pub fn copy_behind(slice: &[u16], rows: &mut [u16])
-    requires full { Full slice.now }
-    requires full_2 { Full rows.old }
-    ensures { Behind slice.now rows.new }
-{
-    // those below i are there
-    for i in PATHS..1340 {
-        put_row(rows, i, row_in(slice, i));
-    }
-}
-
 // Makes the rows of the case with the chosen edges, and answers its counts.
 pub fn rows_with(
     counts: Counts,
@@ -115,7 +103,8 @@ pub fn rows_with(
     let n = choose(list, selection, &mut chosen);
     lay_edges(counts.edges, slice, n, &chosen, rows);
     lay_chosen(counts.edges, slice, n, &chosen, rows);
-    let mut with = counts;
-    with.edges = counts.edges + n;
-    with
+    Counts {
+        edges: counts.edges + n,
+        ..counts
+    }
 }
