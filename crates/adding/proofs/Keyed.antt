@@ -1,6 +1,6 @@
 -- Selections and keys: how many selections there are, and the first key. Assumes nothing.
 use Prim.Native.Nat.{ℕ, zero, suc, ◌+◌, ◌*◌, ◌/◌, ◌%◌, ◌^◌, ◌≤◌, ◌<◌}
-use native.Mathlib.Nat.{mul-le-mul, mod-lt}
+use native.Mathlib.Nat.{zero-add, mul-le-mul, mod-lt}
 use native.Mathlib.Omega.{arith}
 use mathlib.Core.Path.{◌≡◌, refl, sym, ap, ◌∙◌}
 use mathlib.Core.Logic.{⊎_elim}
@@ -17,7 +17,7 @@ use Rattle.std.specs.Prelude.{Option, Some, None}
 use Rattle.bitset.specs.Words.{bit}
 use Rattle.bitset.proofs.Bits.{shifted, ones_count}
 use Rattle.fixpoint.specs.Lists.{up_to, count, first_from}
-use Rattle.fixpoint.proofs.Lists.{lt_cases, first_from_before, first_from_passes}
+use Rattle.fixpoint.proofs.Lists.{lt_cases, first_from_is, first_from_none}
 use Rattle.semantics.specs.Adding.{candidate_count, chooses, chosen_count, key_count, key_size, key_selection}
 use Rattle.settling.specs.Settled.{solved_at}
 use Rattle.adding.specs.declared.asked.Asked.{Asked}
@@ -33,30 +33,14 @@ one_shifted {candidates} h e =
 
 -- ---- The first number that passes a test
 
-first_none : (f k : ℕ) (t : ℕ → Bool) → ((j : ℕ) → k ≤ j → j < k + f → t j ≡ false) → first_from f k t ≡ k + f
-unfolding first_from
-first_none zero k t none = omega arith
-first_none (suc f) k t none =
-    rw (none k (omega arith) (omega arith), first_from) (first_none f (suc k) t (λ j a b. none j (omega arith) (omega arith)) ∙ omega arith)
-
 module _ (n : ℕ) (t : ℕ → Bool) (key : ℕ) (none : (k : ℕ) → k < key → t k ≡ false) where
   first_found : key < n → t key ≡ true → Some key ≡ first_below n t
   unfolding first_below
-  first_found h here =
-      let m = first_from n 0 t in
-      let passes : t m ≡ true = first_from_passes n 0 t (key, omega arith, omega arith, here) in
-      let is : m ≡ key =
-      ⊎_elim
-      (λ o. absurd (false≢true (sym (none m o) ∙ passes)))
-      (λ o. ⊎_elim (λ l. absurd (false≢true (sym (first_from_before n 0 t key (omega arith) l) ∙ here))) (λ l. omega arith) (lt_cases key m))
-      (lt_cases m key) in
-      rw (is, lt-ltb key n h)
+  first_found h here = rw (first_from_is n 0 t key (omega arith) (omega arith) here (λ j a b. none j b), lt-ltb key n h)
 
   first_nowhere : n ≤ key → None ≡ first_below n t
   unfolding first_below
-  first_nowhere h =
-      let last : first_from n 0 t ≡ n = first_none n 0 t (λ j a b. none j (omega arith)) ∙ omega arith in
-      rw (last, le-ltb n n (omega arith))
+  first_nowhere h = rw (first_from_none n 0 t (λ j a b. none j (omega arith)), zero-add n, le-ltb n n (omega arith))
 
 -- ---- The first key
 

@@ -27,11 +27,6 @@ pub record EdgesLaid (bound : ℕ) (slice : List ℕ) (n : ℕ) (picked rows : L
   pub edges : (i : ℕ) → i < bound → edge_in rows i ≡ unparked (first_edges picked n) (edge_in slice i)
   pub behind : Behind slice rows
 
--- so they do, and so many of the chosen ones are behind them
-pub record ChosenLaid (bound : ℕ) (slice : List ℕ) (n : ℕ) (picked : List ℕ) (j : ℕ) (rows : List ℕ) : Type 0 where
-  pub edges : first_edges rows (bound + j) ≡ map (unparked (first_edges picked n)) (first_edges slice bound) ++ first_edges picked j
-  pub behind : Behind slice rows
-
 -- the rows hold the case with the chosen edges
 pub record RowsWith (counts : Counts) (slice list : List ℕ) (selection : ℕ) (r : Counts) (rows : List ℕ) : Type 0 where
   pub case : case_in r rows ≡ with_links (case_in counts slice) (chosen list selection)
