@@ -1,6 +1,5 @@
 -- The answer: what is refused before the search is what the definition refuses, and the search's end is its first key. Assumes nothing.
-use Prim.Native.Nat.{ℕ, ◌+◌, ◌*◌, ◌/◌, ◌%◌, ◌^◌, ◌≤◌, ◌<◌}
-use native.Mathlib.Nat.{mul-le-mul}
+use Prim.Native.Nat.{ℕ, ◌+◌, ◌/◌, ◌%◌, ◌≤◌, ◌<◌}
 use native.Mathlib.Omega.{arith}
 use mathlib.Core.Path.{◌≡◌, sym, ap, ap₂, ◌∙◌}
 use mathlib.Core.Logic.Iff
@@ -9,9 +8,7 @@ use mathlib.Core.List.{List}
 use lib.ListN.{length, get_or}
 use lib.Dec.{eqb, ltb, leb}
 use Rattle.std.specs.Prelude.{Option, Some, None}
-use mir.Syntax.{w64}
-use mir.Val.{Fits}
-use borrow.Author.Tests.{ne_eqb, ltb-true, lt-ltb, le-ltb, leb-true}
+use borrow.Author.Tests.{ne_eqb, ltb-true, leb-true}
 use Rattle.cases.specs.Case.{Case}
 use Rattle.cases.specs.Reading.{no_refusal}
 use Rattle.cases.specs.Rows.{case_in, target_in}

@@ -14,7 +14,7 @@ use Rattle.bitset.specs.Words.{bit}
 use Rattle.cases.specs.Counts.{Fit}
 use Rattle.cases.specs.Faults.{laid}
 use Rattle.cases.specs.Format.{edge_of, path_rule_of, shape_rule_of, target_of}
-use Rattle.cases.specs.Rows.{row_in, put_row, edge_in, path_in, shape_in, target_in, case_in, CaseIn, Full}
+use Rattle.cases.specs.Rows.{row_in, put_row, edge_in, path_in, shape_in, target_in, case_in}
 use Rattle.cases.specs.declared.command.Edge.{Edge}
 use Rattle.cases.specs.declared.command.Row.{Row}
 use Rattle.cases.specs.declared.counts.Counts.{Counts}

@@ -1,5 +1,5 @@
 -- The chosen candidates in rows, and the rows of the case with them. Assumes nothing.
-use Rattle.std.specs.Prelude.{ℕ, ◌+◌, ◌≤◌, ◌<◌, ◌≡◌, List, map, ◌++◌, length}
+use Rattle.std.specs.Prelude.{ℕ, ◌+◌, ◌≤◌, ◌<◌, ◌≡◌, List, map, length}
 use Rattle.cases.specs.Rows.{row_in, edge_in, case_in, Full}
 use Rattle.cases.specs.declared.command.Edge.{Edge}
 use Rattle.cases.specs.declared.counts.Counts.{Counts}

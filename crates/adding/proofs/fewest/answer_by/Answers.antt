@@ -1,6 +1,5 @@
 -- `adding::fewest::answer_by` meets its contract: a key of the list, or none. Assumes nothing.
 use Rattle.adding.proofs.Answers.{key_found, key_missing}
-use Rattle.adding.proofs.Keyed.{some_selections}
 use Rattle.adding.proofs.fewest.answer_by.Goals as goal
 
 pub returns-in-Some : goal.returns-in-Some
