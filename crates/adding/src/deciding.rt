@@ -5,6 +5,7 @@ ghost use Rattle.adding.specs.Deciding.{Tabled, PreparedWith, Decided};
 use crate::asked::Asked;
 use crate::choosing::rows_with;
 use cases::counts::Counts;
+use kernel::basis::Basis;
 use kernel::preparing::{lay_counters, lay_sets};
 use semantics::value::Value;
 use settling::deciding::settle_pair;
@@ -28,5 +29,10 @@ pub fn verdict(asked: &Asked, selection: usize, rows: &mut [u16], tables: &mut [
     let mut valid = [0u64; 64];
     let mut possible = [0u64; 64];
     let counts = prepare_with(asked, selection, rows, tables);
-    settle_pair(counts, rows, tables, asked.pair, &mut valid, &mut possible)
+    let basis = Basis {
+        counts,
+        rows,
+        tables,
+    };
+    settle_pair(&basis, asked.pair, &mut valid, &mut possible)
 }
