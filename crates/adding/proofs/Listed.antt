@@ -1,18 +1,18 @@
 -- Candidates in their bytes: where each stands, and of which properties they are. Assumes nothing.
-use Prim.Native.Nat.{ℕ, ◌+◌, ◌*◌, ◌/◌, ◌≤◌, ◌<◌}
+use Prim.Native.Nat.{ℕ, zero, suc, ◌+◌, ◌*◌, ◌/◌, ◌≤◌, ◌<◌}
+use native.Mathlib.Numerals.{add-one}
 use native.Mathlib.Omega.{arith}
-use mathlib.Core.Path.{◌≡◌, sym, ap, ◌∙◌}
-use mathlib.Core.Bool.{Bool, true, false, ◌&&◌}
+use mathlib.Core.Path.{◌≡◌, refl, ap, ◌∙◌}
+use mathlib.Core.Bool.{Bool, ◌&&◌, ◌||◌}
 use mathlib.Core.List.{List}
 use lib.ListN.{length}
 use lib.Dec.{eqb, ltb}
-use borrow.Author.Tests.{eq-eqb, ne_eqb}
+use Rattle.std.specs.List.{list_any, range_with_len}
 use Rattle.cases.specs.Refusals.{Refusal}
 use Rattle.cases.specs.declared.command.Edge.{Edge}
 use Rattle.cases.specs.declared.command.Row.{Row}
 use Rattle.cases.specs.Format.{edge_of}
-use Rattle.fixpoint.specs.Lists.{up_to, any}
-use Rattle.fixpoint.proofs.Lists.{any_none, any_more, any_up_to_of}
+use Rattle.fixpoint.specs.Lists.{from, up_to, any}
 use Rattle.semantics.specs.Adding.{candidate_at, candidate_count}
 use Rattle.semantics.specs.Operations.{refuse_unless}
 use Rattle.adding.specs.Candidates.{unknown_at, of_property}
@@ -21,34 +21,16 @@ use Rattle.adding.specs.Candidates.{unknown_at, of_property}
 pub candidate_there : (list : List ℕ) {n i : ℕ} → n ≡ length list / 5 → i < n → 5 * i + 5 ≤ length list
 candidate_there list e h = omega arith
 
--- none of the candidates below i is of the property
-pub record NoneOf (list : List ℕ) (q i : ℕ) : Type 0 where
-  pub most : i ≤ length list / 5
-  pub none : any (up_to i) (λ j. eqb (candidate_at list j).property.0 q) ≡ false
+-- a test of the n numbers from i on
+any_from : (t : ℕ → Bool) (i n : ℕ) → list_any t (range_with_len i n) ≡ any (from i n) t
+unfolding any from
+any_from t i zero = refl
+any_from t i (suc n) = ap (λ b. t i || b) (rw add-one (any_from t (suc i) n))
 
-module _ {list : List ℕ} {q : ℕ} where
-  pub none_of_first : NoneOf list q 0
-  none_of_first = record { most = omega arith; none = any_none (λ j. eqb (candidate_at list j).property.0 q) }
-
-  pub property_nowhere : {n i : ℕ} → n ≡ length list / 5 → n ≤ i → NoneOf list q i → false ≡ of_property list q
-  unfolding of_property
-  property_nowhere {n} {i} c h v = let e : i ≡ candidate_count list = omega (arith, v.most) in sym (rw e at v.none)
-
--- the property of a candidate that was read
-module _ (list : List ℕ) (q i : ℕ) (row : Row) {edge : Edge} (e : edge_of row ≡ candidate_at list i) (f : edge ≡ edge_of row) where
-  property_is : edge.property.0 ≡ (candidate_at list i).property.0
-  property_is = ap (λ x. x.property.0) (f ∙ e)
-
-  pub none_of_more : i < length list / 5 → (edge.property.0 ≡ q → ⊥) → NoneOf list q i → NoneOf list q (i + 1)
-  none_of_more h d v = record {
-    most = omega arith;
-    none = any_more i (λ j. eqb (candidate_at list j).property.0 q) ∙ rw (ne_eqb (candidate_at list i).property.0 q (λ z. d (property_is ∙ z)), v.none);
-  }
-
-  pub property_found : i < length list / 5 → edge.property.0 ≡ q → true ≡ of_property list q
-  unfolding of_property
-  property_found h z =
-      sym (any_up_to_of (candidate_count list) (λ j. eqb (candidate_at list j).property.0 q) i h (eq-eqb (candidate_at list i).property.0 q (sym property_is ∙ z)))
+pub property_any : (list : List ℕ) (q : ℕ) {b : Bool} → b ≡ list_any (λ i. eqb (candidate_at list i).property.0 q) (range_with_len 0 (candidate_count list))
+    → b ≡ of_property list q
+unfolding of_property up_to
+property_any list q e = e ∙ any_from _ 0 (candidate_count list)
 
 -- whether a candidate that was read is known
 pub unknown_is : (list : List ℕ) (nodes i : ℕ) (row : Row) {edge : Edge} {known : Bool} {r : Refusal} → edge_of row ≡ candidate_at list i → edge ≡ edge_of row

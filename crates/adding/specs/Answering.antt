@@ -1,5 +1,5 @@
 -- What is refused before the search, and what its end answers. Assumes nothing.
-use Rattle.std.specs.Prelude.{ℕ, ◌+◌, ◌*◌, ◌%◌, ◌^◌, cond, List, length, ltb}
+use Rattle.std.specs.Prelude.{ℕ, ◌%◌, ◌^◌, List, length, ltb, Option, Some, None}
 use Rattle.cases.specs.Refusals.{Refusal, no_refusal}
 use Rattle.cases.specs.declared.counts.Counts.{Counts}
 use Rattle.fixpoint.specs.Lists.{up_to}
@@ -17,6 +17,6 @@ asked_fault counts target list =
     (first_of (up_to (candidate_count list)) (unknown_at list counts.nodes)))
 
 -- a key of so many candidates is its selection, and where there is none it is 25
-unfoldable pub key_answer : ℕ → ℕ → Fewest
-key_answer candidates key =
-    cond (ltb key ((candidates + 1) * 2 ^ candidates)) (fewest_by no_refusal (key % 2 ^ candidates)) (fewest_by (record { number = 25; place = 0 }) 0)
+unfoldable pub key_answer : ℕ → Option ℕ → Fewest
+key_answer candidates (Some key) = fewest_by no_refusal (key % 2 ^ candidates)
+key_answer candidates None = fewest_by (record { number = 25; place = 0 }) 0

@@ -66,13 +66,5 @@ pub fn first_unknown(list: &[u8], nodes: usize) -> Refusal
 pub fn is_candidate_property(list: &[u8], property: usize) -> bool
     ensures { result ≡ of_property list.now property }
 {
-    let count = list.len() / 5;
-    // none of those below i is
-    for i in 0..count {
-        let edge = edge_of(candidate_row(list, i));
-        if edge.property.0 == property {
-            return true;
-        }
-    }
-    false
+    (0..list.len() / 5).any(|i| edge_of(candidate_row(list, i)).property.0 == property)
 }

@@ -1,11 +1,10 @@
 // The fewest edges to add: reading's refusals, 23 and 24, then the first key whose selection makes the target sure, or 25.
 ghost use Rattle.std.specs.Prelude.{◌≡◌, ◌≤◌};
 ghost use Rattle.cases.specs.Rows.{case_in};
-ghost use Rattle.fixpoint.specs.Lists.{first_from};
 ghost use Rattle.semantics.specs.Adding.{key_count, fewest_answer};
 ghost use Rattle.adding.specs.Answering.{asked_fault, key_answer};
 ghost use Rattle.adding.specs.Deciding.{sure_over};
-ghost use Rattle.adding.specs.Searching.{Searchable};
+ghost use Rattle.adding.specs.Searching.{Searchable, first_below};
 
 use crate::candidates::{first_unknown, is_fit};
 use crate::searching::{search, selection_count};
@@ -30,29 +29,30 @@ fn asked_fault(counts: Counts, target: usize, list: &[u8]) -> Refusal
 }
 
 // The first key of the case in the rows, over the shapes that the target depends on.
-fn sliced_key(counts: Counts, pair: Target, list: &[u8], rows: &mut [u16]) -> usize
+fn sliced_key(counts: Counts, pair: Target, list: &[u8], rows: &mut [u16]) -> Option<usize>
     requires { Searchable counts pair rows.old list.now }
-    ensures { result ≡ first_from (key_count list.now) 0 (sure_over (case_in counts rows.old) pair list.now) }
+    ensures { result ≡ first_below (key_count list.now) (sure_over (case_in counts rows.old) pair list.now) }
 {
     let set = reached(counts, rows, pair.shape);
     slice_shapes(counts.shapes, set, rows);
     search(counts, pair, rows, list)
 }
 
-// The selection of a key, or 25 for the number of keys.
-fn answer_by(candidates: usize, key: usize) -> Fewest
+// The selection of a key, or 25 where there is none.
+fn answer_by(candidates: usize, key: Option<usize>) -> Fewest
     requires { candidates ≤ 12 }
     ensures { result ≡ key_answer candidates key }
 {
-    let selections = selection_count(candidates);
-    if key < (candidates + 1) * selections {
-        return Fewest::by(no_refusal(), key % selections);
+    match key {
+        Some(key) => Fewest::by(no_refusal(), key % selection_count(candidates)),
+        None => Fewest::by(
+            Refusal {
+                number: 25,
+                place: 0,
+            },
+            0,
+        ),
     }
-    let none = Refusal {
-        number: 25,
-        place: 0,
-    };
-    Fewest::by(none, 0)
 }
 
 // The fewest candidates that make a target sure, of a case of any bytes, a target of any number and a list of any bytes.
