@@ -31,9 +31,9 @@ pub struct Solution {
 }
 
 impl From<Refused> for Solution {
-    fn from(refused: Refused) -> Solution
-        ensures { result ≡ refused_solution (refusal_says refused) }
-    {
+    ghost from_gives = { λ refused answer. answer ≡ refused_solution (refusal_says refused) };
+
+    fn from(refused: Refused) -> Solution {
         Solution {
             number: refused.fault.number(),
             place: refused.place,
@@ -74,9 +74,9 @@ pub struct Checked {
 }
 
 impl From<Refused> for Checked {
-    fn from(refused: Refused) -> Checked
-        ensures { result ≡ refused_checked (refusal_says refused) }
-    {
+    ghost from_gives = { λ refused answer. answer ≡ refused_checked (refusal_says refused) };
+
+    fn from(refused: Refused) -> Checked {
         Checked {
             number: refused.fault.number(),
             place: refused.place,
@@ -98,9 +98,9 @@ pub struct CheckedOld {
 
 // Under the old code: the same, and the byte 1.
 impl From<Checked> for CheckedOld {
-    fn from(checked: Checked) -> CheckedOld
-        ensures { result ≡ with_old_code checked }
-    {
+    ghost from_gives = { λ checked answer. answer ≡ with_old_code checked };
+
+    fn from(checked: Checked) -> CheckedOld {
         CheckedOld {
             number: checked.number,
             place: checked.place,
@@ -120,9 +120,9 @@ pub struct Ranked {
 }
 
 impl From<Refused> for Ranked {
-    fn from(refused: Refused) -> Ranked
-        ensures { result ≡ ranked_by (refusal_says refused) 0 }
-    {
+    ghost from_gives = { λ refused answer. answer ≡ ranked_by (refusal_says refused) 0 };
+
+    fn from(refused: Refused) -> Ranked {
         Ranked {
             number: refused.fault.number(),
             place: refused.place,
@@ -153,9 +153,9 @@ pub struct Totals {
 }
 
 impl From<Refused> for Totals {
-    fn from(refused: Refused) -> Totals
-        ensures { result ≡ refused_totals (refusal_says refused) }
-    {
+    ghost from_gives = { λ refused answer. answer ≡ refused_totals (refusal_says refused) };
+
+    fn from(refused: Refused) -> Totals {
         Totals {
             number: refused.fault.number(),
             place: refused.place,
@@ -174,9 +174,9 @@ pub struct Fewest {
 }
 
 impl From<Refused> for Fewest {
-    fn from(refused: Refused) -> Fewest
-        ensures { result ≡ fewest_by (refusal_says refused) 0 }
-    {
+    ghost from_gives = { λ refused answer. answer ≡ fewest_by (refusal_says refused) 0 };
+
+    fn from(refused: Refused) -> Fewest {
         Fewest {
             number: refused.fault.number(),
             place: refused.place,
