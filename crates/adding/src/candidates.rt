@@ -7,7 +7,7 @@ ghost use Rattle.semantics.specs.Operations.{first_of};
 ghost use Rattle.adding.specs.Candidates.{unknown_at, of_property};
 
 use cases::answers::{Refusal, no_refusal};
-use cases::command::{Edge, Row, edge_of};
+use cases::command::{Edge, Row};
 use cases::format::number_at;
 use semantics::refusals::refuse_unless;
 
@@ -43,7 +43,7 @@ fn unknown_at(list: &[u8], nodes: usize, i: usize) -> Refusal
     requires { 5 * i + 5 ≤ length list.now }
     ensures { result ≡ unknown_at list.now nodes i }
 {
-    let edge = edge_of(candidate_row(list, i));
+    let edge = Edge::from(candidate_row(list, i));
     refuse_unless(is_known(edge, nodes), 24, i + 1)
 }
 
@@ -66,5 +66,5 @@ pub fn first_unknown(list: &[u8], nodes: usize) -> Refusal
 pub fn is_candidate_property(list: &[u8], property: usize) -> bool
     ensures { result ≡ of_property list.now property }
 {
-    (0..list.len() / 5).any(|i| edge_of(candidate_row(list, i)).property.0 == property)
+    (0..list.len() / 5).any(|i| Edge::from(candidate_row(list, i)).property.0 == property)
 }

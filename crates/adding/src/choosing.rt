@@ -8,7 +8,7 @@ ghost use Rattle.adding.specs.Choosing.{ChosenTo, Behind, EdgesLaid, RowsWith};
 
 use crate::candidates::candidate_row;
 use bitset::words::has_bit;
-use cases::command::{LAID, Row, edge_of};
+use cases::command::{Edge, LAID, Row};
 use cases::counts::Counts;
 use cases::rows::{put_row, row_in};
 use fitness::parking::is_laid;
@@ -47,7 +47,7 @@ fn unparked_row(row: Row, n: usize, chosen: &[u16]) -> Row
     requires { 4 * n ≤ length chosen.now }
     ensures { edge_of result ≡ unparked (map (edge_in chosen.now) (up_to n)) (edge_of row) }
 {
-    let edge = edge_of(row);
+    let edge = Edge::from(row);
     if edge.code == LAID {
         return row;
     }

@@ -8,7 +8,7 @@ ghost use Rattle.finding.specs.Finding.{PlainRoom, PlainAs, FindRoom, NestedAs, 
 
 use crate::noting::note;
 use cases::answers::{Step, Taken, number_of};
-use cases::command::{Command, Row, shape_rule_of};
+use cases::command::{Command, Row, ShapeRule};
 use cases::counts::{Counts, no_counts, shape_limit};
 use fitness::faults::{in_order, next};
 use fitness::parking::edge_there;
@@ -77,7 +77,7 @@ fn shape_step(row: Row, width: usize) -> Step
     ensures { result ≡ shape_step row width }
 {
     Step::Is(
-        Command::Shape(shape_rule_of(row)),
+        Command::Shape(ShapeRule::from(row)),
         row,
         Taken { group: 4, width },
     )

@@ -5,7 +5,7 @@ ghost use Rattle.cases.specs.Case.{edge_is};
 ghost use Rattle.cases.specs.Faults.{laid, edge_there};
 ghost use Rattle.cases.specs.Rows.{Full, edge_in};
 
-use cases::command::{Command, Edge, LAID, PARKED, edge_of};
+use cases::command::{Command, Edge, LAID, PARKED};
 use cases::rows::row_in;
 
 // Whether an edge is laid by an 02 with the operands of another. Ends differ most often, so they are asked first.
@@ -23,7 +23,7 @@ pub fn is_laid(edge: Edge, edges: usize, rows: &[u16]) -> bool
     requires { 4 * edges ≤ length rows.now }
     ensures { result ≡ laid (map (edge_in rows.now) (up_to edges)) edge }
 {
-    (0..edges).any(|i| lays(edge_of(row_in(rows, i)), edge))
+    (0..edges).any(|i| lays(Edge::from(row_in(rows, i)), edge))
 }
 
 fn parks_laid(edge: Edge, edges: usize, rows: &[u16]) -> bool

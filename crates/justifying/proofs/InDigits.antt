@@ -1,6 +1,7 @@
 -- Numbers by their binary digits: put into rows, how many there are, and compared with a bound from the highest down. Assumes nothing.
-use Prim.Native.Nat.{ℕ, ◌+◌, ◌-◌, ◌*◌, ◌/◌, ◌%◌, ◌^◌, ◌≤◌, ◌<◌}
-use native.Mathlib.Nat.{div-one}
+use Rattle.std.proofs.lemmas.Nat.{leading_length}
+use Prim.Native.Nat.{ℕ, max, ◌+◌, ◌-◌, ◌*◌, ◌/◌, ◌%◌, ◌^◌, ◌≤◌, ◌<◌}
+use native.Mathlib.Nat.{div-one, div-eq_of_lt}
 use native.Mathlib.Omega.{arith}
 use mathlib.Core.Path.{◌≡◌, refl, sym, ap, ◌∙◌}
 use mathlib.Core.Logic.{⊎_elim}
@@ -9,7 +10,8 @@ use mathlib.Core.List.{List}
 use lib.ListN.{length, get_or}
 use lib.Bits.{bit_and, bit_or}
 use lib.Dec.{eqb, ltb}
-use lib.Pow.{shr-shr, shr_mono}
+use lib.Count.{count_leading_zeros}
+use lib.Pow.{shr-shr, shr_mono, pow_mono}
 use mir.Syntax.{w64}
 use mir.Val.{Fits}
 use borrow.Author.Tests.{eqb-true, eqb-false, eq-eqb, ne_eqb, lt-ltb, le-ltb}
@@ -73,9 +75,20 @@ module _ {t : List ℕ} {w a x : ℕ} where
 
 -- ---- How many digits
 
-pub digits_more : {x n : ℕ} → x < 65536 → n ≤ 16 → (x / 2 ^ n ≡ 0 → ⊥) → n + 1 ≤ 16
-digits_more {x} {n} h l e =
-    ⊎_elim (λ k. omega arith) (λ k. let q : n ≡ 16 = omega arith in absurd ((rw q at e) (omega arith))) (lt_cases n 16)
+module _ {x : ℕ} (h : x < 65536) where
+  length_of : (m : ℕ) × (count_leading_zeros 64 x + m ≡ 64) × (x < 2 ^ m) × (2 ^ m ≤ 2 * x + 1)
+  length_of = leading_length 64 x (omega arith)
+
+  pub digit_count_small : 64 - count_leading_zeros 64 x ≤ 16
+  digit_count_small =
+      let (m, e, l, o) = length_of in
+      ⊎_elim (λ k. omega arith) (λ k. let p = pow_mono k in absurd (omega (arith, p, o))) (lt_cases m 17)
+
+  pub digit_count_large : x / 2 ^ (64 - count_leading_zeros 64 x) ≡ 0
+  digit_count_large =
+      let (m, e, l, o) = length_of in
+      let q : 64 - count_leading_zeros 64 x ≡ m = omega arith in
+      rw q (div-eq_of_lt l)
 
 -- ---- The levels of a shape: those of the nodes below a are there, none above `most`
 
@@ -98,17 +111,17 @@ module _ {levels : List ℕ} {size : Size} {s : ℕ} {o t : List ℕ} where
 
   module _ {most a : ℕ} (v : DigitsFilledTo levels size s o t most a) where
     pub digits_filled_more : {level most' : ℕ} {t' : List ℕ} → a < size.nodes → size.nodes ≤ 64 * size.words → level ≡ level_at levels (s * size.nodes + a) → level < 65536
-        → DigitsInserted t size.words a level t' → most ≤ most' → level ≤ most' → (most < 65536 → level < 65536 → most' < 65536) → DigitsFilledTo levels size s o t' most' (a + 1)
-    digits_filled_more {level} h wide e small i m l f = record {
+        → DigitsInserted t size.words a level t' → most' ≡ max most level → DigitsFilledTo levels size s o t' most' (a + 1)
+    digits_filled_more {level} h wide e small i m = record {
       nodes = omega arith;
       members = λ k b g o.
           i.members k b g (omega arith) ∙ rw (v.members k b g o, e) (one_more (λ b. bit (level_at levels (s * size.nodes + b)) k) b a);
       greatest = λ b g.
           ⊎_elim
           (λ o. omega (arith, v.greatest b o))
-          (λ o. let q : b ≡ a = omega arith in rw (q, ← e) l)
+          (λ o. let q : b ≡ a = omega arith in omega (arith, ap (λ n. level_at levels (s * size.nodes + n)) q))
           (lt_cases b a);
-      small = f v.small small;
+      small = omega (arith, v.small);
       long = i.long ∙ v.long;
     }
 

@@ -5,6 +5,7 @@ use mathlib.Core.Path.{◌≡◌, refl, sym, ap, ap₂, ◌∙◌}
 use mathlib.Core.Logic.{⊎_elim}
 use mathlib.Core.Bool.{Bool, true, false, not, ◌&&◌, ◌||◌, and-true, and_assoc, and-not_self, and-eq-true_iff, or-false}
 use mathlib.Core.List.{List}
+use Rattle.std.specs.Prelude.{Option, Some}
 use lib.ListN.{length, get_or}
 use lib.Bits.{bit_and}
 use lib.Count.{ones}
@@ -67,21 +68,21 @@ module _ {test : ℕ → Bool} {word i : ℕ} where
       bits = λ j h. v.bits j h ∙ ap (λ z. z && test (64 * i + j)) (ap (λ z. bit word j && not z) (ap (λ z. bit z j) e ∙ bit_zero j) ∙ and-true (bit word j));
     }
 
--- ---- By digits, where some are used
+-- ---- By digits, where they are worked out
 
-module _ {levels : List ℕ} {size : Size} {s : ℕ} {digits : List ℕ} {used : ℕ} (d : DigitsUnless levels size s digits used) {b : Bool} (f : b ≡ true → 0 < used) (y : b ≡ true) where
+module _ {levels : List ℕ} {size : Size} {s : ℕ} {digits : List ℕ} {o : Option ℕ} (d : DigitsUnless levels size s digits o) {used : ℕ} (y : o ≡ Some used) where
   pub digits_long : 16 * size.words ≤ length digits
-  digits_long = (d.right (f y)).there
+  digits_long = (d.right used y).there
 
   pub digits_few : used ≤ 16
-  digits_few = (d.right (f y)).few
+  digits_few = (d.right used y).few
 
   pub lower_by_digits : {word i bound lower : ℕ} → WordBelow size.nodes i word → LowerIn digits size.words used i bound lower → WordWhere (is_low levels bound size s) word i (bit_and word lower)
   lower_by_digits {word} {i} {bound} {lower} nodes u = record {
     bits = λ j h.
         bit_and_lem word lower j
         ∙ by_test (bit word j)
-        (λ e. rw e (u.right j (level_at levels (s * size.nodes + (64 * i + j))) h ((d.right (f y)).each (64 * i + j) (nodes.below j h e))))
+        (λ e. rw e (u.right j (level_at levels (s * size.nodes + (64 * i + j))) h ((d.right used y).each (64 * i + j) (nodes.below j h e))))
         (λ e. rw e);
   }
 

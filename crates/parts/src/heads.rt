@@ -2,7 +2,7 @@
 ghost use Rattle.std.specs.Prelude.{◌≡◌};
 ghost use Rattle.cases.specs.Parts.{opening, rule_head, at_most_head, head_at, head_opens, head_says};
 
-use cases::command::{Row, shape_rule_of};
+use cases::command::{Row, ShapeRule};
 use cases::counts::Counts;
 use cases::format::{part_format_of, read_operands, taken_by};
 use cases::heads::{Opens, PartHead};
@@ -24,7 +24,7 @@ fn opening_of(kind: usize, row: Row, width: usize) -> PartHead
 fn rule_head(counts: Counts, kind: usize, row: Row, width: usize) -> Result<PartHead, Fault>
     ensures { head_says result ≡ rule_head counts.nodes counts.paths kind row width }
 {
-    let rule = shape_rule_of(row);
+    let rule = ShapeRule::from(row);
     if !shape_nodes_known(counts.nodes, rule) {
         return Err(Fault::UnknownNode);
     }

@@ -7,11 +7,15 @@ use cases::refusals::Fault;
 #[derive(Clone, Copy, PartialEq, Eq)]
 pub struct Value(pub u8);
 
-// What a byte says: a value, unless it is above 2.
-impl TryFrom<u8> for Value {
-    type Error = Fault;
+impl Value {
+    pub const VIOLATED: Value = Value(0);
 
-    fn try_from(byte: u8) -> Result<Value, Fault>
+    pub const OPEN: Value = Value(1);
+
+    pub const VALID: Value = Value(2);
+
+    // What a byte says: a value, unless it is above 2.
+    pub fn of_byte(byte: u8) -> Result<Value, Fault>
         ensures { result ≡ said_value_or_fault (byte_says byte) }
     {
         if byte <= 2 {
@@ -20,14 +24,6 @@ impl TryFrom<u8> for Value {
             Err(Fault::NoValue)
         }
     }
-}
-
-impl Value {
-    pub const VIOLATED: Value = Value(0);
-
-    pub const OPEN: Value = Value(1);
-
-    pub const VALID: Value = Value(2);
 
     pub fn deny(self) -> Value
         ensures { result.0 ≡ 2 - self.0 }

@@ -1,5 +1,6 @@
 -- The value that a rule gives a pair, by the values that it reads and by the sets of valid and of possible pairs; and the pairs that have it.
 -- Assumes nothing.
+use Rattle.std.specs.Prelude.{Ok}
 use Prim.Native.Nat.{ℕ, zero, suc, ◌+◌, ◌-◌, ◌*◌, ◌≤◌, ◌<◌, min, max}
 use native.Mathlib.Omega.{arith}
 use mathlib.Core.Path.{◌≡◌, refl, sym, ap, ap₂, ◌∙◌}
@@ -23,13 +24,11 @@ use Rattle.cases.specs.declared.numbers.Shape.{Shape}
 use Rattle.cases.specs.declared.numbers.Path.{Path}
 use Rattle.fillers.specs.CaseTables.{Tables}
 use Rattle.fillers.proofs.InTables.{pair_count_is}
-use Rattle.semantics.specs.Values.{Said, Is, Above}
-use Rattle.semantics.specs.declared.value.Value.{Value}
 use Rattle.semantics.specs.OldCode.{support_fault}
 use Rattle.semantics.specs.Operations.{refuse_unless}
 use Rattle.semantics.specs.Paths.{live}
 use Rattle.semantics.specs.Stability.{holds}
-use Rattle.semantics.specs.Values.{byte_says, said_number, said_value, pair_of, shape_of, node_of, entry_at, rule_value, pair_value, supported_at}
+use Rattle.semantics.specs.Values.{byte_says, said_value_or_fault, pair_of, shape_of, node_of, entry_at, rule_value, pair_value, supported_at}
 use Rattle.semantics.proofs.Kernel.{holds_grows}
 use Rattle.semantics.proofs.Thresholds.{value_at_least, value_at_most}
 use Rattle.cases.specs.declared.ruled.Ruled.{Ruled}
@@ -52,16 +51,9 @@ holds_agree c r a Y Y' X X' ha f g =
 
 -- ---- A byte that is at most 2 says its value
 
-module _ (b : ℕ) {said : Said} (e : said ≡ byte_says b) (small : b ≤ 2) where
-  says_value : said ≡ Is (record { 0 = b })
-  unfolding byte_says
-  says_value = e ∙ rw (le-leb b 2 small)
-
-  pub said_value_is : {v : Value} → said ≡ Is v → v.0 ≡ b
-  said_value_is q = ap said_value (sym q ∙ says_value)
-
-  pub said_above : said ≡ Above → 0 ≡ b
-  said_above q = let n : ◌≡◌ {A = ℕ} 13 0 = ap said_number (sym q ∙ says_value) in absurd (omega (arith, n))
+pub says_value : (b : ℕ) → b ≤ 2 → said_value_or_fault (byte_says b) ≡ Ok (record { 0 = b })
+unfolding byte_says
+says_value b small = rw (le-leb b 2 small)
 
 -- ---- A rule and its pairs in the case
 
@@ -114,9 +106,9 @@ module _ {of : Ruled} {a : ℕ} {sets values : List ℕ} where
   unfolding rule_value
   gives_top e = record { right = λ counts rows i. rw e }
 
-  pub gives_node : {b : Node} {x : ℕ} → of.rule ≡ NodeRule b → x ≡ cond (eqb b.0 a) 2 (cond false 1 0) → RuleGives of a sets values x
+  pub gives_node : {b : Node} {x : ℕ} {z : Bool} → of.rule ≡ NodeRule b → z ≡ eqb b.0 a → x ≡ cond z 2 (cond false 1 0) → RuleGives of a sets values x
   unfolding rule_value
-  gives_node e q = record { right = λ counts rows i. q ∙ rw e }
+  gives_node e f q = record { right = λ counts rows i. q ∙ rw (e, f) }
 
   module _ {s q : Shape} {x y z : ℕ} where
     pub gives_and : of.rule ≡ And s q → x ≡ min y z → y ≡ get_or values (s.0 * of.size.nodes + a) 0 → z ≡ get_or values (q.0 * of.size.nodes + a) 0

@@ -5,4 +5,4 @@ use Rattle.support.proofs.ValueFaults.{unvalued}
 use Rattle.support.proofs.proposing.value_fault.Given as goal
 
 abbrev pub invariant-loop-k : goal.invariant-loop-k
-invariant-loop-k l = Well (unvalued l.values) l.k
+invariant-loop-k l = Well (unvalued l.values) l.k-counter

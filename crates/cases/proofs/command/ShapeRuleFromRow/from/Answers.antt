@@ -2,7 +2,7 @@
 use Rattle.std.proofs.Common.{rules}
 use borrow.Author.Tests.{ne_eqb}
 use Rattle.cases.specs.Format.{shape_rule_of}
-use Rattle.cases.proofs.command.shape_rule_of.Goals as goal
+use Rattle.cases.proofs.command.ShapeRuleFromRow.from.Goals as goal
 
 pub returns-in-32 : goal.returns-in-32
 unfolding shape_rule_of

@@ -2,7 +2,7 @@
 use Rattle.std.proofs.Common.{rules}
 use borrow.Author.Tests.{ne_eqb}
 use Rattle.cases.specs.Format.{path_rule_of}
-use Rattle.cases.proofs.command.path_rule_of.Goals as goal
+use Rattle.cases.proofs.command.PathRuleFromRow.from.Goals as goal
 
 pub returns-in-16 : goal.returns-in-16
 unfolding path_rule_of

@@ -1,8 +1,8 @@
--- `Value::try_from` meets its contract: a byte of at most 2 says itself. Assumes nothing.
+-- `Value::of_byte` meets its contract: a byte of at most 2 says itself. Assumes nothing.
 use borrow.Author.Tests.{le-leb, lt-leb}
 use Rattle.std.proofs.Common.{rules}
 use Rattle.semantics.specs.Values.{byte_says}
-use Rattle.semantics.proofs.value.ValueTryFromU8.try_from.Goals as goal
+use Rattle.semantics.proofs.value.Value.of_byte.Goals as goal
 
 pub returns-then-byte-le2 : goal.returns-then-byte-le2
 unfolding byte_says
