@@ -14,6 +14,7 @@ use cases::command::Target;
 use cases::counts::Counts;
 use fillers::table::is_small;
 use kernel::preparing::{lay_links, lay_sets};
+use semantics::value::Value;
 
 // The selections of so many candidates.
 pub fn selection_count(candidates: usize) -> usize
@@ -33,8 +34,7 @@ fn is_sure(asked: &Asked, key: usize, rows: &mut [u16], tables: &mut [u64]) -> b
     if selection.count_ones() as usize != key / selections {
         return false;
     }
-    let value = verdict(asked, selection, rows, tables);
-    value.0 == 2
+    verdict(asked, selection, rows, tables) == Value::VALID
 }
 
 // The first such key.
