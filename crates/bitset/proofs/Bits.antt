@@ -6,7 +6,7 @@ use native.Mathlib.Numerals.{one-add}
 use native.Mathlib.Omega.{arith}
 use mathlib.Core.Path.{◌≡◌, refl, sym, ap, ap₂, ◌∙◌}
 use mathlib.Core.Logic.{⊎_elim}
-use mathlib.Core.Bool.{Bool, true, false, cond, not, ◌&&◌, ◌||◌, or_comm, or-false, and-true, and-false, false≢true}
+use mathlib.Core.Bool.{Bool, true, false, cond, not, ◌&&◌, ◌||◌, or_comm, or-false, and-true, false≢true}
 use mathlib.Core.List.{[], ◌∷◌}
 use lib.Dec.{eqb, ltb}
 use lib.Bits.{bit_and, bit_or, bit_xor, and_shr, and_mod, and_mask, and_le_l, or_shr, or_mod, xor_shr, xor_mod}
@@ -127,23 +127,13 @@ bit_set x j h = record {
 pub bit_set_if : {x j y : ℕ} → WithBit x j y → WithBitIf x j true y
 bit_set_if {x} {j} u = record { bits = λ i l. u.bits i l ∙ ap (λ b. b || bit x i) (sym (and-true (eqb i j))) }
 
-pub bit_kept : (x j : ℕ) → WithBitIf x j false x
-bit_kept x j = record { bits = λ i l. ap (λ b. b || bit x i) (sym (and-false (eqb i j))) }
-
 -- A bit set or left out
 pub cond_true : (x m : Bool) → cond x true m ≡ (x || m)
 cond_true true m = refl
 cond_true false m = refl
 
-cond_false : (x m : Bool) → cond x false m ≡ (m && not x)
-cond_false true m = sym (and-false m)
-cond_false false m = sym (and-true m)
-
 pub bit_put : {x j y : ℕ} {there : Bool} → there ≡ true → WithBit x j y → BitAssigned x j there y
 bit_put {x} {j} e u = rw e (record { bits = λ i l. u.bits i l ∙ sym (cond_true (eqb i j) (bit x i)) })
-
-pub bit_taken_out : {x j y : ℕ} {there : Bool} → there ≡ false → WithoutBit x j y → BitAssigned x j there y
-bit_taken_out {x} {j} e u = rw e (record { bits = λ i l. u.bits i l ∙ sym (cond_false (eqb i j) (bit x i)) })
 
 -- Bits set one by one: those below s are as f says
 pub below_next : (q s : ℕ) → (q ≡ s → ⊥) → ltb q s ≡ ltb q (s + 1)
@@ -153,9 +143,6 @@ below_next q s n =
     (λ b. lt-ltb q s (omega (arith, ltb-true q (s + 1) b)))
 
 module _ (f : ℕ → Bool) where
-  pub set_none : (q : ℕ) → bit 0 q ≡ (ltb q 0 && f q)
-  set_none q = bit_zero q ∙ ap (λ b. b && f q) (sym (le-ltb q 0 (omega arith)))
-
   pub set_more : {s x y : ℕ} → ((q : ℕ) → q < 64 → bit x q ≡ (ltb q s && f q)) → WithBitIf x s (f s) y → (q : ℕ) → q < 64 → bit y q ≡ (ltb q (s + 1) && f q)
   set_more {s} u v q h =
       v.bits q h

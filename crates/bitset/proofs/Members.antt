@@ -1,6 +1,6 @@
 -- Membership in rows, word by word: a word stored, rows joined, rows compared, common members counted, over any number of words. Assumes nothing.
 use Prim.Native.Nat.{ℕ, zero, suc, ◌+◌, ◌*◌, ◌/◌, ◌%◌, ◌^◌, ◌≤◌, ◌<◌}
-use native.Mathlib.Nat.{zero-add, add-zero, add-suc, mul-le-mul_right, suc-mul, le_trans, le_of_eq, lt_of_le_of_lt}
+use native.Mathlib.Nat.{add-zero, add-suc, mul-le-mul_right, suc-mul, le_trans, le_of_eq, lt_of_le_of_lt}
 use native.Mathlib.Omega.{arith}
 use mathlib.Core.Path.{◌≡◌, refl, sym, ap, ap₂, ◌∙◌}
 use mathlib.Core.Logic.{◌⊎◌, inl, inr, ⊎_elim}
@@ -8,7 +8,7 @@ use mathlib.Core.Bool.{Bool, true, false, cond, not, ◌&&◌, ◌||◌, beq, an
 use mathlib.Core.List.{List, [], ◌∷◌}
 use lib.ListN.{length, get_or, set, replicate, length-set, get_or-eq_default}
 use Rattle.std.proofs.lemmas.List.{length-replicate, get_or-replicate}
-use lib.Seq.{get_or-set_same, get_or-set_other, ext_get_or}
+use lib.Seq.{get_or-set_same, get_or-set_other}
 use lib.Arith.{digits_div, digits_mod}
 use lib.Bits.{bit_and, bit_or, and_le_l}
 use lib.Count.{ones}
@@ -114,9 +114,6 @@ pub record JoinedTo (t : List ℕ) (w into from i : ℕ) (t' : List ℕ) : Type 
   pub long : length t' ≡ length t
 
 module _ {t : List ℕ} {w into from : ℕ} where
-  pub joined_none : JoinedTo t w into from 0 t
-  joined_none = record { most = omega arith; done = λ k h. absurd (omega arith); kept = λ p h. refl; long = refl }
-
   module _ {t' : List ℕ} {i : ℕ} where
     pub joined_more : HasRow t w into → i < w → JoinedTo t w into from i t'
         → JoinedTo t w into from (i + 1) (set t' (into * w + i) (bit_or (get_or t' (into * w + i) 0) (get_or t' (from * w + i) 0)))
@@ -161,67 +158,19 @@ module _ {t : List ℕ} {w into from : ℕ} where
       long = v.long;
     }
 
--- two words at once
-pub joined_two : {t : List ℕ} {into from : ℕ} → HasRow t 2 into
-    → Joined t 2 into from
-    (set (set t (into * 2) (bit_or (get_or t (into * 2) 0) (get_or t (from * 2) 0))) (into * 2 + 1) (bit_or (get_or t (into * 2 + 1) 0) (get_or t (from * 2 + 1) 0)))
-joined_two {t} {into} {from} f =
-    let low = bit_or (get_or t (into * 2) 0) (get_or t (from * 2) 0) in
-    let high = bit_or (get_or t (into * 2 + 1) 0) (get_or t (from * 2 + 1) 0) in
-    let half = set t (into * 2) low in
-    let long : length half ≡ length t = length-set t (into * 2) low in
-    joined_done {i = 2} (omega arith) (record {
-      most = omega arith;
-      done = λ k h.
-          ⊎_elim
-          (λ l. let e : k ≡ 0 = omega arith in
-          let p : into * 2 + 0 ≡ into * 2 = omega arith in
-          let q : from * 2 + 0 ≡ from * 2 = omega arith in
-          rw (e, p, q) (get_or-set_other half (into * 2 + 1) (into * 2) high 0 (omega arith) ∙ get_or-set_same t (into * 2) low 0 (omega (arith, f.fits))))
-          (λ l. let e : k ≡ 1 = omega arith in rw e (get_or-set_same half (into * 2 + 1) high 0 (omega (arith, f.fits))))
-          (lt_cases k 1);
-      kept = λ p l.
-          let d : (p ≡ into * 2 + 1 → ⊥) × (p ≡ into * 2 → ⊥) = ⊎_elim (λ b. (λ e. omega arith, λ e. omega arith)) (λ b. (λ e. omega arith, λ e. omega arith)) l in
-          get_or-set_other half (into * 2 + 1) p high 0 d.0 ∙ get_or-set_other t (into * 2) p low 0 d.1;
-      long = length-set half (into * 2 + 1) high ∙ long;
-    })
-
--- The first i of n words were set to those of g
-pub record FilledTo (g : ℕ → ℕ) (n i : ℕ) (t : List ℕ) : Type 0 where
-  pub most : i ≤ n
-  pub words : (k : ℕ) → k < i → get_or t k 0 ≡ g k
-  pub long : length t ≡ n
-
-pub filled_none : {g : ℕ → ℕ} {n : ℕ} {t : List ℕ} → length t ≡ n → FilledTo g n 0 t
-filled_none h = record { most = omega arith; words = λ k h. absurd (omega arith); long = h }
-
-pub filled_more : {g : ℕ → ℕ} {n i : ℕ} {t : List ℕ} → i < length t → FilledTo g n i t → FilledTo g n (i + 1) (set t i (g i))
-filled_more {g} {n} {i} {t} h v = record {
-  most = omega (arith, v.long);
-  words = λ k l.
-      ⊎_elim
-      (λ b. get_or-set_other t i k (g i) 0 (omega arith) ∙ v.words k b)
-      (λ b. let e : k ≡ i = omega arith in rw e (get_or-set_same t i (g i) 0 h))
-      (lt_cases k i);
-  long = length-set t i (g i) ∙ v.long;
-}
-
 get_or_zeros : (n i : ℕ) → get_or {A = ℕ} (replicate n 0) i 0 ≡ 0
 get_or_zeros n i =
     let zeros : List ℕ = replicate n 0 in
     let long : length zeros ≡ n = length-replicate n 0 in
     ⊎_elim (λ l. get_or-replicate n i 0 0 l) (λ l. get_or-eq_default zeros 0 (omega arith)) (lt_cases i n)
 
--- a table of words that are 0 has no members, and one with the words of another is the other
+-- a table of words that are 0 has no members
 pub zeros_cleared : {t t' : List ℕ} → t' ≡ replicate (length t) 0 → Cleared t t'
 unfolding member
 zeros_cleared {t} {t'} h = record {
   members = λ w r b. ap (λ x. bit x (b % 64)) (ap (λ l. get_or l (r * w + b / 64) 0) h ∙ get_or_zeros (length t) (r * w + b / 64)) ∙ bit_zero (b % 64);
   long = ap length h ∙ length-replicate (length t) 0;
 }
-
-pub filled_same : {u t : List ℕ} {i : ℕ} → length t ≤ i → FilledTo (λ k. get_or u k 0) (length u) i t → t ≡ u
-filled_same {u} {t} {i} h v = ext_get_or 0 t u v.long (λ k l. v.words k (omega arith))
 
 -- The first i of w words pass a test
 pub record Passed (P : ℕ → Type 0) (w i : ℕ) : Type 0 where
@@ -237,14 +186,6 @@ module _ {P : ℕ → Type 0} {w : ℕ} where
 
   pub passed_done : {i : ℕ} → w ≤ i → Passed P w i → (k : ℕ) → k < w → P k
   passed_done {i} h v k l = v.each k (omega arith)
-
--- an answer that holds where the words of two rows agree is the test of the last words, once those before them agree
-last_decides : {w i : ℕ} {x : Bool} (f g : ℕ → ℕ) → w ≡ i + 1 → Passed (λ k. f k ≡ g k) w i
-    → (((k : ℕ) → k < w → f k ≡ g k) → x ≡ true) → (x ≡ true → f i ≡ g i) → eqb (f i) (g i) ≡ x
-last_decides {w} {i} {x} f g e v to of =
-    bool_ext (eqb (f i) (g i)) x
-    (λ h. to (passed_done (omega arith) (passed_more (omega arith) (eqb-true (f i) (g i) h) v)))
-    (λ h. eq-eqb (f i) (g i) (of h))
 
 -- HasRow r of t and row s of u, of w words
 module _ (t : List ℕ) (r : ℕ) (u : List ℕ) (s w : ℕ) where
@@ -271,14 +212,6 @@ module _ (t : List ℕ) (r : ℕ) (u : List ℕ) (s w : ℕ) where
   subset_fails k h l n =
       fails (all (up_to (64 * w)) (λ b. not (member t w r b) || member u w s b)) (λ e. n (subset_in e k h l))
 
-  pub subset_last : (i : ℕ) → w ≡ i + 1 → get_or t (r * w + i) 0 < 2 ^ 64
-      → Passed (λ k. bit_and (get_or t (r * w + k) 0) (get_or u (s * w + k) 0) ≡ get_or t (r * w + k) 0) w i
-      → eqb (bit_and (get_or t (r * w + i) 0) (get_or u (s * w + i) 0)) (get_or t (r * w + i) 0)
-      ≡ all (up_to (64 * w)) (λ b. not (member t w r b) || member u w s b)
-  subset_last i e l v =
-      last_decides (λ k. bit_and (get_or t (r * w + k) 0) (get_or u (s * w + k) 0)) (λ k. get_or t (r * w + k) 0) e v
-      subset_of (λ h. subset_in h i (omega arith) l)
-
   -- they are the same if each word is
   pub same_of : ((k : ℕ) → k < w → get_or t (r * w + k) 0 ≡ get_or u (s * w + k) 0)
       → all (up_to (64 * w)) (λ b. beq (member t w r b) (member u w s b)) ≡ true
@@ -298,12 +231,6 @@ module _ (t : List ℕ) (r : ℕ) (u : List ℕ) (s w : ℕ) where
       → all (up_to (64 * w)) (λ b. beq (member t w r b) (member u w s b)) ≡ false
   same_fails k h l m n =
       fails (all (up_to (64 * w)) (λ b. beq (member t w r b) (member u w s b))) (λ e. n (same_in e k h l m))
-
-  pub same_last : (i : ℕ) → w ≡ i + 1 → get_or t (r * w + i) 0 < 2 ^ 64 → get_or u (s * w + i) 0 < 2 ^ 64
-      → Passed (λ k. get_or t (r * w + k) 0 ≡ get_or u (s * w + k) 0) w i
-      → eqb (get_or t (r * w + i) 0) (get_or u (s * w + i) 0) ≡ all (up_to (64 * w)) (λ b. beq (member t w r b) (member u w s b))
-  same_last i e l m v =
-      last_decides (λ k. get_or t (r * w + k) 0) (λ k. get_or u (s * w + k) 0) e v same_of (λ h. same_in h i (omega arith) l m)
 
 -- The numbers of one word more that pass a test are the bits of a word that agrees with the test
 pub count_word : (f : ℕ → Bool) (x n k : ℕ) → ((j : ℕ) → j < k → f (n + j) ≡ bit x j) → count (up_to (n + k)) f ≡ count (up_to n) f + count (up_to k) (bit x)
@@ -352,14 +279,3 @@ module _ {t : List ℕ} {r : ℕ} {u : List ℕ} {s w : ℕ} where
       → n + ones (bit_and (get_or t (r * w + i) 0) (get_or u (s * w + i) 0)) ≤ 64 * w
   counted_room {i} {n} h l v =
       le_trans (counted_most (counted_more h l v)) (omega arith)
-
-  pub counted_done : {i n : ℕ} → w ≤ i → CountedTo t r u s w i n → n ≡ count (up_to (64 * w)) (λ b. member t w r b && member u w s b)
-  counted_done {i} {n} h v = let e : w ≡ i = omega arith in v.right ∙ ap (λ k. count (up_to (64 * k)) (λ b. member t w r b && member u w s b)) (sym e)
-
--- two words at once
-pub counted_two : (t : List ℕ) (r : ℕ) (u : List ℕ) (s : ℕ) → ((k : ℕ) → get_or t k 0 < 2 ^ 64)
-    → CountedTo t r u s 2 2 (ones (bit_and (get_or t (r * 2) 0) (get_or u (s * 2) 0)) + ones (bit_and (get_or t (r * 2 + 1) 0) (get_or u (s * 2 + 1) 0)))
-counted_two t r u s f =
-    let one : CountedTo t r u s 2 1 (0 + ones (bit_and (get_or t (r * 2 + 0) 0) (get_or u (s * 2 + 0) 0))) =
-    counted_more (omega arith) (f (r * 2 + 0)) counted_none in
-    counted_more (omega arith) (f (r * 2 + 1)) (simp (add-zero, zero-add) at one)

@@ -36,38 +36,27 @@ pub fn insert(t: &mut [u64], w: usize, r: usize, b: usize)
     assign(t, w, r, b, true);
 }
 
-// Adds row `from` to row `into`. Rows of two words, the commonest, go without a loop.
+// Adds row `from` to row `into`. Rows of two words, the commonest, are a call of their own, whose loop the compiler unrolls.
 pub fn join(t: &mut [u64], w: usize, into: usize, from: usize)
     requires has_row { HasRow t.old w into }
     requires has_row_2 { HasRow t.old w from }
     ensures { Joined t.old w into from t.new }
 {
     if w == 2 {
-        join_two(t, into, from);
+        join_words(t, 2, into, from);
     } else {
         join_words(t, w, into, from);
     }
 }
 
-fn join_two(t: &mut [u64], into: usize, from: usize)
-    requires has_row { HasRow t.old 2 into }
-    requires has_row_2 { HasRow t.old 2 from }
-    ensures { Joined t.old 2 into from t.new }
-{
-    let low = t[into * 2] | t[from * 2];
-    let high = t[into * 2 + 1] | t[from * 2 + 1];
-    t[into * 2] = low;
-    t[into * 2 + 1] = high;
-}
-
+#[inline(always)]
 fn join_words(t: &mut [u64], w: usize, into: usize, from: usize)
     requires has_row { HasRow t.old w into }
     requires has_row_2 { HasRow t.old w from }
     ensures { Joined t.old w into from t.new }
 {
     for i in 0..w {
-        let word = t[into * w + i] | t[from * w + i];
-        t[into * w + i] = word;
+        t[into * w + i] |= t[from * w + i];
     }
 }
 
@@ -84,10 +73,7 @@ pub fn copy_words(t: &mut [u64], at: usize, u: &[u64], from: usize, n: usize)
     requires n_in_bounds_2 { from + n ≤ length u.now }
     ensures { WordsCopied u.now from at n t.old t.new }
 {
-    for i in 0..n {
-        let word = u[from + i];
-        t[at + i] = word;
-    }
+    t[at..at + n].copy_from_slice(&u[from..from + n]);
 }
 
 // Makes t the same table as u.
@@ -95,7 +81,7 @@ pub fn copy(t: &mut [u64], u: &[u64])
     requires { length t.old ≡ length u.now }
     ensures { t.new ≡ u.now }
 {
-    copy_words(t, 0, u, 0, u.len());
+    t.copy_from_slice(u);
 }
 
 // Makes row s of t row r of u.
@@ -114,33 +100,24 @@ pub fn join_row(t: &mut [u64], s: usize, u: &[u64], r: usize, w: usize)
     ensures { RowAdded u.now w r s t.old t.new }
 {
     for i in 0..w {
-        let word = t[s * w + i] | u[r * w + i];
-        t[s * w + i] = word;
+        t[s * w + i] |= u[r * w + i];
     }
 }
 
-// Whether all of row r of t is in row s of u. Rows of two words go without a loop, here and below, as in `join`.
+// Whether all of row r of t is in row s of u. Rows of two words are apart here and below, as in `join`.
 pub fn is_subset(t: &[u64], r: usize, u: &[u64], s: usize, w: usize) -> bool
     requires has_row { HasRow t.now w r }
     requires has_row_2 { HasRow u.now w s }
     ensures { result ≡ all (up_to (64 * w)) (λ b. not (member t.now w r b) || member u.now w s b) }
 {
     if w == 2 {
-        return subset_two(t, r, u, s);
+        subset_words(t, r, u, s, 2)
+    } else {
+        subset_words(t, r, u, s, w)
     }
-    subset_words(t, r, u, s, w)
 }
 
-fn subset_two(t: &[u64], r: usize, u: &[u64], s: usize) -> bool
-    requires has_row { HasRow t.now 2 r }
-    requires has_row_2 { HasRow u.now 2 s }
-    ensures { result ≡ all (up_to (64 * 2)) (λ b. not (member t.now 2 r b) || member u.now 2 s b) }
-{
-    let low = t[r * 2];
-    let high = t[r * 2 + 1];
-    low & u[s * 2] == low && high & u[s * 2 + 1] == high
-}
-
+#[inline(always)]
 fn subset_words(t: &[u64], r: usize, u: &[u64], s: usize, w: usize) -> bool
     requires has_row { HasRow t.now w r }
     requires has_row_2 { HasRow u.now w s }
@@ -162,19 +139,13 @@ pub fn is_same(t: &[u64], r: usize, s: usize, w: usize) -> bool
     ensures { result ≡ all (up_to (64 * w)) (λ b. beq (member t.now w r b) (member t.now w s b)) }
 {
     if w == 2 {
-        return same_two(t, r, s);
+        same_words(t, r, s, 2)
+    } else {
+        same_words(t, r, s, w)
     }
-    same_words(t, r, s, w)
 }
 
-fn same_two(t: &[u64], r: usize, s: usize) -> bool
-    requires has_row { HasRow t.now 2 r }
-    requires has_row_2 { HasRow t.now 2 s }
-    ensures { result ≡ all (up_to (64 * 2)) (λ b. beq (member t.now 2 r b) (member t.now 2 s b)) }
-{
-    t[r * 2] == t[s * 2] && t[r * 2 + 1] == t[s * 2 + 1]
-}
-
+#[inline(always)]
 fn same_words(t: &[u64], r: usize, s: usize, w: usize) -> bool
     requires has_row { HasRow t.now w r }
     requires has_row_2 { HasRow t.now w s }
@@ -196,21 +167,13 @@ pub fn count_common(t: &[u64], r: usize, u: &[u64], s: usize, w: usize) -> usize
     ensures { result ≡ count (up_to (64 * w)) (λ b. member t.now w r b && member u.now w s b) }
 {
     if w == 2 {
-        return count_two(t, r, u, s);
+        count_words(t, r, u, s, 2)
+    } else {
+        count_words(t, r, u, s, w)
     }
-    count_words(t, r, u, s, w)
 }
 
-fn count_two(t: &[u64], r: usize, u: &[u64], s: usize) -> usize
-    requires has_row { HasRow t.now 2 r }
-    requires has_row_2 { HasRow u.now 2 s }
-    ensures { result ≡ count (up_to (64 * 2)) (λ b. member t.now 2 r b && member u.now 2 s b) }
-{
-    let low = u64::count_ones(t[r * 2] & u[s * 2]) as usize;
-    let high = u64::count_ones(t[r * 2 + 1] & u[s * 2 + 1]) as usize;
-    low + high
-}
-
+#[inline(always)]
 fn count_words(t: &[u64], r: usize, u: &[u64], s: usize, w: usize) -> usize
     requires has_row { HasRow t.now w r }
     requires has_row_2 { HasRow u.now w s }
@@ -220,7 +183,7 @@ fn count_words(t: &[u64], r: usize, u: &[u64], s: usize, w: usize) -> usize
     let mut n = 0;
     for i in 0..w {
         let common = t[r * w + i] & u[s * w + i];
-        n += u64::count_ones(common) as usize;
+        n += common.count_ones() as usize;
     }
     n
 }

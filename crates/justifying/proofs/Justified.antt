@@ -1,5 +1,6 @@
 -- Whether the level of a supported pair is above its support, by tests on the levels that its rule reads. Assumes nothing.
-use Prim.Native.Nat.{ℕ, zero, suc, ◌+◌, ◌-◌, ◌*◌, ◌^◌, ◌≤◌, ◌<◌}
+use Rattle.std.specs.Prelude.{Option, Some, None}
+use Prim.Native.Nat.{ℕ, zero, suc, min, ◌+◌, ◌-◌, ◌*◌, ◌^◌, ◌≤◌, ◌<◌}
 use native.Mathlib.Omega.{arith}
 use mathlib.Core.Path.{◌≡◌, refl, sym, ap, ap₂, ◌∙◌}
 use mathlib.Core.Bool.{Bool, true, false, cond, not, ◌&&◌, ◌||◌, and-eq-true_iff}
@@ -98,13 +99,13 @@ module _ {of : Ruled} {sets levels : List ℕ} (v : LevelsRead of sets levels) w
 -- ---- Digits of the levels that a rule reads at fillers
 
 module _ {levels : List ℕ} {size : Size} {digits : List ℕ} where
-  pub digits_unused : (s : ℕ) → DigitsUnless levels size s digits 0
-  digits_unused s = record { right = λ h. absurd (omega arith) }
+  pub digits_unused : (s : ℕ) → DigitsUnless levels size s digits None
+  digits_unused s = record { right = λ n e. cc }
 
-  module _ {used : ℕ} where
-    pub digits_used : {s : ℕ} → DigitsOf levels size s digits used → DigitsUnless levels size s digits used
-    digits_used d = record { right = λ h. d }
+  pub digits_used : {s used : ℕ} → DigitsOf levels size s digits used → DigitsUnless levels size s digits (Some used)
+  digits_used {used = used} d = record { right = λ n e. let m : used ≡ n = cc in rw m at d }
 
+  module _ {used : Option ℕ} where
     module _ {r : ShapeRule} {p : Path} {s : Shape} where
       pub digits_of_all : r ≡ All p s → DigitsUnless levels size s.0 digits used → DigitsUnless levels size (filled_shape r) digits used
       unfolding filled_shape references
@@ -302,7 +303,7 @@ module _ {of : Ruled} {sets valid possible levels : List ℕ} {pairs : ℕ} wher
   justified_none = record { from = omega arith; well = λ counts rows i values p. well_start (rw i.size_is (omega arith)) }
 
   module _ {k : ℕ} (v : JustifiedTo of sets valid possible levels pairs k) where
-    module _ {end : ℕ} (h : k < end) (most : end ≤ of.shape.0 * of.size.nodes + of.size.nodes) (few : end ≤ pairs) where
+    module _ {end : ℕ} (h : k < end) (least : end ≡ min (of.shape.0 * of.size.nodes + of.size.nodes) pairs) where
       pub justified_node : k - of.shape.0 * of.size.nodes < of.size.nodes
       justified_node = omega (arith, v.from)
 
@@ -320,14 +321,15 @@ module _ {of : Ruled} {sets valid possible levels : List ℕ} {pairs : ℕ} wher
         justified_first n = record {
           right = λ counts rows i values p.
               let o : of.shape.0 * counts.nodes ≤ k = rw i.size_is at v.from in
-              let m : end ≤ of.shape.0 * counts.nodes + counts.nodes = rw i.size_is at most in
+              let m : end ≡ min (of.shape.0 * counts.nodes + counts.nodes) pairs = rw i.size_is at least in
               first_found (fault_is i p) n o (omega arith) (omega arith) (v.well counts rows i values p);
         }
 
-    pub justified_all : {end : ℕ} {r : Refusal} → end ≤ k → ((j : ℕ) → j < of.shape.0 * of.size.nodes + of.size.nodes → j < pairs → j < end) → r ≡ no_refusal
+    pub justified_all : {end : ℕ} {r : Refusal} → end ≤ k → end ≡ min (of.shape.0 * of.size.nodes + of.size.nodes) pairs → r ≡ no_refusal
         → RowJustified of sets valid possible levels pairs r
-    justified_all h m e = record {
-      right = λ counts rows i values p. first_none_found e (λ j l o. let b = (rw i.size_is at m) j l o in omega arith) (v.well counts rows i values p);
+    justified_all {end} h least e = record {
+      right = λ counts rows i values p.
+          let m : end ≡ min (of.shape.0 * counts.nodes + counts.nodes) pairs = rw i.size_is at least in first_none_found e (λ j l o. omega arith) (v.well counts rows i values p);
     }
 
 -- ---- All shapes: the pairs of those below s are justified, if they are supported

@@ -32,11 +32,11 @@ use Rattle.semantics.specs.Values.{byte_says, said_value_or_fault, pair_of, shap
 use Rattle.semantics.proofs.Kernel.{holds_grows}
 use Rattle.semantics.proofs.Thresholds.{value_at_least, value_at_most}
 use Rattle.cases.specs.declared.ruled.Ruled.{Ruled}
-use Rattle.support.specs.Proposals.{Proposed, ValuesRead, unsupported, RowSupported}
+use Rattle.support.specs.Proposals.{ValuesRead, unsupported, RowSupported}
 use Rattle.cases.specs.Ruled.{ruled_in}
 use Rattle.support.specs.Rules.{RuleIn, RuleGives, PairGives}
 use Rattle.support.proofs.Holding.{RuleHolds, holds_same, holds_all, holds_least}
-use Rattle.support.proofs.Passing.{WellFrom, well_start, well_next, first_found, first_none_found, RowsWell, rows_well_none, rows_well_more, rows_well_first, rows_well_all}
+use Rattle.support.proofs.Passing.{WellFrom, well_next, first_found, RowsWell, rows_well_first, rows_well_all}
 use Rattle.support.proofs.RulesThere.{rule_in, rule_of, node_of_counts, rule_positive, shapes_known, value_small, value_valid, value_possible}
 
 -- a rule that is read in sets that agree at its references holds in both or in neither
@@ -222,9 +222,6 @@ pub record SupportedTo (of : Ruled) (sets values : List ℕ) (a : ℕ) : Type 0 
       → WellFrom (unsupported counts rows values) (of.shape.0 * counts.nodes) (of.shape.0 * counts.nodes + a)
 
 module _ {of : Ruled} {sets values : List ℕ} where
-  pub supported_none : SupportedTo of sets values 0
-  supported_none = record { most = omega arith; well = λ counts rows i. well_start (omega arith) }
-
   module _ {a : ℕ} (v : SupportedTo of sets values a) where
     module _ {x : ℕ} {r : Refusal} (h : a < of.size.nodes) (e : r ≡ refuse_unless (eqb (get_or values (of.shape.0 * of.size.nodes + a) 0) x) 14 (of.shape.0 * of.size.nodes + a))
         (g : PairGives of a sets values x) where
@@ -246,11 +243,6 @@ module _ {of : Ruled} {sets values : List ℕ} where
             first_found (fault_is i) n (omega arith) (omega (arith, node_of_counts i h)) (digits_lt i.below (node_of_counts i h)) (v.well counts rows i);
       }
 
-    pub supported_all : {r : Refusal} → of.size.nodes ≤ a → r ≡ no_refusal → RowSupported of sets values r
-    supported_all h e = record {
-      right = λ counts rows i. let m : counts.nodes ≤ a = rw i.size_is at h in first_none_found e (λ k l o. omega arith) (v.well counts rows i);
-    }
-
 -- ---- All shapes: the pairs of those below s are supported
 
 pub record SupportedRows (counts : Counts) (rows sets values : List ℕ) (s : ℕ) : Type 0 where
@@ -258,18 +250,9 @@ pub record SupportedRows (counts : Counts) (rows sets values : List ℕ) (s : �
   pub well : RowsWell (unsupported counts rows values) counts.nodes counts.shapes (counts.shapes * counts.nodes) s
 
 module _ {counts : Counts} {rows sets values : List ℕ} where
-  pub supported_rows_none : Tables counts rows sets → SupportedRows counts rows sets values 0
-  supported_rows_none t = record { tables = t; well = rows_well_none }
-
   module _ {s : ℕ} (v : SupportedRows counts rows sets values s) where
     module _ (h : s < counts.shapes) {of : Ruled} (e : of ≡ ruled_in counts rows (record { 0 = s })) where
-      pub values_read : {valid possible : List ℕ} → Proposed counts values valid possible → ValuesRead of sets values valid possible
-      values_read p = record { counts = counts; rows = rows; rule_in = rule_in v.tables h e; proposed = p }
-
       module _ {r : Refusal} (g : RowSupported of sets values r) where
-        pub supported_rows_more : r.number ≡ 0 → SupportedRows counts rows sets values (s + 1)
-        supported_rows_more z = record { tables = v.tables; well = rows_well_more h (rw e at (g.right counts rows (rule_in v.tables h e))) z v.well }
-
         pub supported_rows_first : (r.number ≡ 0 → ⊥) → r ≡ support_fault (case_in counts rows) values
         supported_rows_first n = rows_well_first (rw e at (g.right counts rows (rule_in v.tables h e))) n v.well ∙ rw (← pair_count_is v.tables)
 

@@ -30,7 +30,12 @@ pub fn value_fault(values: &[u8], pairs: usize) -> Result<(), Refused>
 }
 
 // 13; and where there is none, the sets are those of the valid and of the possible pairs.
-pub fn propose(counts: Counts, values: &[u8], valid: &mut [u64], possible: &mut [u64]) -> Result<(), Refused>
+pub fn propose(
+    counts: Counts,
+    values: &[u8],
+    valid: &mut [u64],
+    possible: &mut [u64],
+) -> Result<(), Refused>
     requires nodes_bound { counts.nodes ≤ 64 * words_of counts }
     requires counts_bound { counts.shapes * words_of counts ≤ 64 }
     requires nodes_in_bounds { counts.shapes * counts.nodes ≤ length values.now }
@@ -83,7 +88,12 @@ pub fn support_fault(
 }
 
 // The first fault of the proposed values, without levels.
-pub fn check_support(counts: Counts, rows: &[u16], sets: &[u64], values: &[u8]) -> Result<(), Refused>
+pub fn check_support(
+    counts: Counts,
+    rows: &[u16],
+    sets: &[u64],
+    values: &[u8],
+) -> Result<(), Refused>
     requires tables { Tables counts rows.now sets.now }
     requires nodes_in_bounds { counts.shapes * counts.nodes ≤ length values.now }
     ensures { refusal_in result ≡ or_else (value_fault (case_in counts rows.now) values.now) (support_fault (case_in counts rows.now) values.now) }

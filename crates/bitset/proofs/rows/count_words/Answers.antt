@@ -1,20 +1,10 @@
 use Prim.Native.Nat.{◌+◌, ◌*◌}
 use native.Mathlib.Omega.{arith}
-use Rattle.bitset.proofs.Members.{counted_none, counted_more, counted_room, counted_done}
+use Rattle.bitset.proofs.Members.{counted_none, counted_more, counted_room}
 use Rattle.bitset.proofs.rows.count_words.Goals as goal
 
 pub loop-i-init : goal.loop-i-init
 loop-i-init c = counted_none
-
-pub overflow_cast-n : goal.overflow_cast-n
-overflow_cast-n c =
-    let a = c.args in
-    omega (
-      arith,
-      counted_room c.loop-i-test.true
-          (c.type_inv.t (a.r * a.w + c.loop-i.i)).fits
-          c.loop-i.invariant,
-    )
 
 pub overflow_add-n : goal.overflow_add-n
 overflow_add-n c =
@@ -32,6 +22,3 @@ loop-i-preserved c =
     counted_more c.loop-i-test.true
     (c.type_inv.t (a.r * a.w + c.loop-i.i)).fits
     c.loop-i.invariant
-
-pub returns : goal.returns
-returns c = counted_done c.loop-i-test.false c.loop-i.invariant

@@ -1,5 +1,4 @@
 -- `bitset::rows::count_words` meets its contract. The invariant: n counts the common members in the first i words. Assumes nothing.
-use Prim.Native.Nat.{◌-◌}
 use Rattle.bitset.proofs.Members.{CountedTo}
 use Rattle.bitset.proofs.rows.count_words.Given as goal
 

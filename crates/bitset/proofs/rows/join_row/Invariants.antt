@@ -1,6 +1,5 @@
 -- `bitset::rows::join_row` meets its contract. Assumes nothing.
 use Rattle.bitset.proofs.Making.{RowAddedTo}
-use Prim.Native.Nat.{◌-◌}
 use Rattle.bitset.proofs.rows.join_row.Given as goal
 
 abbrev pub invariant-loop-i : goal.invariant-loop-i

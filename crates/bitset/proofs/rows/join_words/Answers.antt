@@ -1,8 +1,5 @@
-use Rattle.bitset.proofs.Members.{joined_none, joined_more, joined_done}
+use Rattle.bitset.proofs.Members.{joined_more, joined_done}
 use Rattle.bitset.proofs.rows.join_words.Goals as goal
-
-pub loop-i-init : goal.loop-i-init
-loop-i-init c = joined_none
 
 pub loop-i-preserved : goal.loop-i-preserved
 loop-i-preserved c = joined_more c.requires.has_row c.loop-i-test.true c.loop-i.invariant

@@ -1,5 +1,4 @@
 -- `bitset::rows::join_words` meets its contract. The invariant: the first i words are joined, all others are as they were. Assumes nothing.
-use Prim.Native.Nat.{◌-◌}
 use Rattle.bitset.proofs.Members.{JoinedTo}
 use Rattle.bitset.proofs.rows.join_words.Given as goal
 

@@ -1,5 +1,5 @@
 -- `bitset::rows::same_words` meets its contract. The invariant: the first i words are the same. Assumes nothing.
-use Prim.Native.Nat.{◌+◌, ◌-◌, ◌*◌}
+use Prim.Native.Nat.{◌+◌, ◌*◌}
 use mathlib.Core.Path.{◌≡◌}
 use lib.ListN.{get_or}
 use Rattle.bitset.proofs.Members.{Passed}

@@ -1,10 +1,7 @@
 use Prim.Native.Nat.{◌+◌, ◌*◌}
 use mathlib.Core.Path.{sym}
-use Rattle.bitset.proofs.Members.{passed_none, passed_more, passed_done, subset_of, subset_fails}
+use Rattle.bitset.proofs.Members.{passed_done, subset_of, subset_fails}
 use Rattle.bitset.proofs.rows.subset_words.Goals as goal
-
-pub loop-i-init : goal.loop-i-init
-loop-i-init c = passed_none
 
 pub returns-then-word-u : goal.returns-then-word-u
 returns-then-word-u c =
@@ -15,9 +12,6 @@ returns-then-word-u c =
     c.loop-i-test.true
     (c.type_inv.t (a.r * a.w + c.loop-i.i)).fits
     c.if-word-u.true)
-
-pub loop-i-preserved : goal.loop-i-preserved
-loop-i-preserved c = passed_more c.loop-i-test.true c.if-word-u.false c.loop-i.invariant
 
 pub returns : goal.returns
 returns c =

@@ -1,5 +1,5 @@
 -- `bitset::rows::subset_words` meets its contract. The invariant: each of the first i words is in its word of the other row. Assumes nothing.
-use Prim.Native.Nat.{◌+◌, ◌-◌, ◌*◌}
+use Prim.Native.Nat.{◌+◌, ◌*◌}
 use mathlib.Core.Path.{◌≡◌}
 use lib.Bits.{bit_and}
 use lib.ListN.{get_or}

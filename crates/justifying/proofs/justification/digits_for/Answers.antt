@@ -15,23 +15,8 @@ digits_over-requires-in-AtLeast-clause-block c = search (block_named, least_path
 pub digits_over-requires-in-AtLeast-clause-level_row : goal.digits_over-requires-in-AtLeast-clause-level_row
 digits_over-requires-in-AtLeast-clause-level_row c = search (level_row, least_known)
 
-pub returns-in-Top : goal.returns-in-Top
-returns-in-Top c = digits_unused _
-
-pub returns-in-Node : goal.returns-in-Node
-returns-in-Node c = digits_unused _
-
-pub returns-in-And : goal.returns-in-And
-returns-in-And c = digits_unused _
-
-pub returns-in-Or : goal.returns-in-Or
-returns-in-Or c = digits_unused _
-
-pub returns-in-Not : goal.returns-in-Not
-returns-in-Not c = digits_unused _
-
-pub returns-in-Same : goal.returns-in-Same
-returns-in-Same c = digits_unused _
+pub returns-in_default : goal.returns-in_default
+returns-in_default c = digits_unused _
 
 pub returns-in-All : goal.returns-in-All
 returns-in-All c = search digits_of_all

@@ -7,8 +7,5 @@ pub returns-in_err-propose : goal.returns-in_err-propose
 returns-in_err-propose c =
     let e = c.in_err-propose.ensures in rw (refused_on _ c.from_residual.result c.from_residual.ensures.1) (search (checked_first, refused_some))
 
-pub support_fault-requires-clause-proposed : goal.support_fault-requires-clause-proposed
-support_fault-requires-clause-proposed c = search c.in_ok-propose.ensures.proposed
-
 pub returns : goal.returns
 returns c = let e = c.in_ok-propose.ensures in search checked_next

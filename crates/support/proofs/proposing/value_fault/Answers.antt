@@ -1,6 +1,6 @@
 use native.Mathlib.Omega.{arith}
 use Rattle.std.proofs.lemmas.Grind.{common_steps}
-use Rattle.semantics.proofs.Refusing.{well_none, well_all}
+use Rattle.semantics.proofs.Refusing.{well_all}
 use Rattle.support.proofs.ValueFaults.{next_value}
 use Rattle.support.proofs.proposing.value_fault.Goals as goal
 

@@ -1,7 +1,0 @@
--- `bitset::rows::copy_words` meets its contract. Assumes nothing.
-use Rattle.bitset.specs.Words.{WordsCopied}
-use Prim.Native.Nat.{◌≤◌, ◌-◌}
-use Rattle.bitset.proofs.rows.copy_words.Given as goal
-
-abbrev pub invariant-loop-i : goal.invariant-loop-i
-invariant-loop-i l = (WordsCopied l.u l.from l.at l.i l.initial.t l.t) × (l.i ≤ l.n)
