@@ -1,6 +1,5 @@
 -- The answer: what is refused before the search is what the definition refuses, and the search's end is its first key. Assumes nothing.
-use Prim.Native.Nat.{ℕ, ◌+◌, ◌*◌, ◌/◌, ◌%◌, ◌^◌, ◌≤◌, ◌<◌}
-use native.Mathlib.Nat.{mul-le-mul}
+use Prim.Native.Nat.{ℕ, ◌+◌, ◌/◌, ◌%◌, ◌≤◌, ◌<◌}
 use native.Mathlib.Omega.{arith}
 use mathlib.Core.Path.{◌≡◌, sym, ap, ap₂, ◌∙◌}
 use mathlib.Core.Logic.Iff
@@ -8,9 +7,8 @@ use mathlib.Core.Bool.{Bool, true, ◌&&◌, and-eq-true_iff}
 use mathlib.Core.List.{List}
 use lib.ListN.{length, get_or}
 use lib.Dec.{eqb, ltb, leb}
-use mir.Syntax.{w64}
-use mir.Val.{Fits}
-use borrow.Author.Tests.{ne_eqb, ltb-true, lt-ltb, le-ltb, leb-true}
+use Rattle.std.specs.Prelude.{Option, Some, None}
+use borrow.Author.Tests.{ne_eqb, ltb-true, leb-true}
 use Rattle.cases.specs.Case.{Case}
 use Rattle.cases.specs.Rows.{case_in, target_in}
 use Rattle.reader.specs.Parsing.{Parsed}
@@ -35,26 +33,19 @@ use Rattle.settling.specs.Settled.{solved_at}
 use Rattle.adding.specs.Answering.{asked_fault, key_answer}
 use Rattle.adding.specs.Candidates.{unknown_at}
 use Rattle.adding.specs.Deciding.{sure_over}
-use Rattle.adding.specs.Searching.{Searchable, SelectionsOf}
+use Rattle.adding.specs.Searching.{Searchable, SelectionsOf, first_below}
 use Rattle.adding.proofs.Parsed.{parsed_refusal, parsed_case, targets_count}
 
 -- ---- What the search's end answers
 
-pub keys_fit : {candidates n : ℕ} → SelectionsOf candidates n → candidates ≤ 12 → Fits w64 ((candidates + 1) * n)
-keys_fit {candidates} {n} v h =
-    let thirteen : candidates + 1 ≤ 13 = omega arith in
-    let few : (candidates + 1) * n ≤ 13 * 4096 = mul-le-mul thirteen v.most in
-    record { fits = omega (arith, few) }
-
-module _ {candidates key n : ℕ} (v : SelectionsOf candidates n) where
-  pub key_found : key < (candidates + 1) * n → {r : Refusal} {a : Fewest} → r ≡ no_refusal → a ≡ fewest_by r (key % n) → a ≡ key_answer candidates key
+module _ (candidates : ℕ) {found : Option ℕ} {a : Fewest} where
+  pub key_found : {key n : ℕ} {r : Refusal} → found ≡ Some key → SelectionsOf candidates n → r ≡ no_refusal → a ≡ fewest_by r (key % n) → a ≡ key_answer candidates found
   unfolding key_answer
-  key_found h e f =
-      f ∙ rw e (rw v.is (sym (rw (lt-ltb key ((candidates + 1) * 2 ^ candidates) (rw v.is at h)))))
+  key_found o v e f = f ∙ rw (o, e, v.is)
 
-  pub key_missing : (candidates + 1) * n ≤ key → {a : Fewest} → a ≡ fewest_by (record { number = 25; place = 0 }) 0 → a ≡ key_answer candidates key
+  pub key_missing : found ≡ None → a ≡ fewest_by (record { number = 25; place = 0 }) 0 → a ≡ key_answer candidates found
   unfolding key_answer
-  key_missing h f = f ∙ sym (rw (le-ltb key ((candidates + 1) * 2 ^ candidates) (rw v.is at h)))
+  key_missing o f = f ∙ rw o
 
 -- ---- The target's pair
 
@@ -176,10 +167,11 @@ module _ {s : List ℕ} {p : Parsed} {rows : List ℕ} (target : ℕ) (list : Li
             node_known = omega (arith, node_in, nodes_in p.counts rows);
           }
 
-      pub fewest_found : {key : ℕ} {a : Fewest} → key ≡ first_from (key_count list) 0 (sure_over (case_in p.counts rows) pair list)
+      pub fewest_found : {key : Option ℕ} {a : Fewest} → key ≡ first_below (key_count list) (sure_over (case_in p.counts rows) pair list)
           → a ≡ key_answer (length list / 5) key → a ≡ fewest_answer s target list
-      unfolding fewest_answer fewest counted key_answer refuse_unless
-      fewest_found {key} k g =
-          let first : fewest_key (case_of s) target list ≡ key =
-          rw (← parsed_case h) (sure_is (case_in p.counts rows) target list pair (rw (targets_count p.counts rows) target_there) target_is ∙ sym k) in
-          g ∙ rw (refusal_is, or_else_next r missing none, first) (by_test (ltb key (key_count list)) (λ y. rw y) (λ n. rw n))
+      unfolding fewest_answer fewest counted key_answer refuse_unless first_below
+      fewest_found k g =
+          let n = first_from (key_count list) 0 (sure_over (case_in p.counts rows) pair list) in
+          let first : fewest_key (case_of s) target list ≡ n =
+          rw (← parsed_case h) (sure_is (case_in p.counts rows) target list pair (rw (targets_count p.counts rows) target_there) target_is) in
+          g ∙ rw (refusal_is, or_else_next r missing none, first, k) (by_test (ltb n (key_count list)) (λ y. rw y) (λ n. rw n))

@@ -1,12 +1,9 @@
 -- `adding::fewest::answer_by` meets its contract: a key of the list, or none. Assumes nothing.
-use Rattle.adding.proofs.Answers.{keys_fit, key_found, key_missing}
+use Rattle.adding.proofs.Answers.{key_found, key_missing}
 use Rattle.adding.proofs.fewest.answer_by.Goals as goal
 
-pub overflow_mul-candidates : goal.overflow_mul-candidates
-overflow_mul-candidates c = search keys_fit
+pub returns-in-Some : goal.returns-in-Some
+returns-in-Some c = search key_found
 
-pub returns-then-key-candidates : goal.returns-then-key-candidates
-returns-then-key-candidates c = search key_found
-
-pub returns : goal.returns
-returns c = search key_missing
+pub returns-in-None : goal.returns-in-None
+returns-in-None c = search key_missing
