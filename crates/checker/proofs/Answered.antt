@@ -22,7 +22,7 @@ use Rattle.semantics.specs.Values.{pair_count}
 use Rattle.checker.specs.declared.checking.Code.{Code}
 use Rattle.checker.specs.declared.checking.Code.TheVariants.{Older, Newer}
 use Rattle.checker.specs.Codes.{levels_needed, proposal_fault, checked_in}
-use Rattle.support.proofs.Passing.{refused_some}
+use Rattle.cases.proofs.Faulted.{refused_some}
 
 -- ---- By code
 

@@ -1,5 +1,6 @@
 -- `checker::checking::check_pairs` meets its contract, with levels. Assumes nothing.
-use Rattle.support.proofs.Passing.{refused_some, refused_on}
+use Rattle.cases.proofs.Faulted.{refused_some}
+use Rattle.support.proofs.Passing.{refused_on}
 use Rattle.support.proofs.ValueFaults.{checked_first, checked_next}
 use Rattle.checker.proofs.checking.check_pairs.Goals as goal
 

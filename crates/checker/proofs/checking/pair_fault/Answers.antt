@@ -1,5 +1,6 @@
 -- `checker::checking::pair_fault` meets its contract: the pass for 15 ends where the pass for 14 did. Assumes nothing.
-use Rattle.support.proofs.Passing.{refused_some, refused_on}
+use Rattle.cases.proofs.Faulted.{refused_some}
+use Rattle.support.proofs.Passing.{refused_on}
 use Rattle.checker.proofs.Checked.{supported_few, pairs_checked, pairs_refused}
 use Rattle.checker.proofs.checking.pair_fault.Goals as goal
 
