@@ -18,6 +18,7 @@ use Rattle.cases.specs.declared.command.Target.{Target}
 use Rattle.cases.specs.declared.counts.Counts.{Counts}
 use Rattle.cases.specs.declared.refusals.Fault.TheVariants.{NoneSuffices}
 use Rattle.cases.specs.declared.refusals.Refused.{Refused}
+use Rattle.cases.proofs.Faulted.{refused_some}
 use Rattle.cases.proofs.InRows.{nodes_in, shapes_in, edges_in, targets_in}
 use Rattle.cases.proofs.Sound.{outcome_limited}
 use Rattle.fixpoint.specs.Lists.{up_to, all, first_from}
@@ -31,14 +32,13 @@ use Rattle.semantics.specs.Parking.{with_edges}
 use Rattle.semantics.specs.Solving.{verdicts, target_values}
 use Rattle.semantics.proofs.Refusing.{or_else_none, or_else_this, or_else_next, or_else_assoc, unless_none, well_of}
 use Rattle.settling.specs.Settled.{solved_at}
-use Rattle.reader.specs.Parsing.{ParsedAs}
+use Rattle.reader.specs.Parsing.{ParsedAs, parsed_in}
 use Rattle.adding.specs.Answering.{asked_fault}
 use Rattle.adding.specs.Candidates.{unknown_at}
 use Rattle.adding.specs.Deciding.{sure_over}
 use Rattle.adding.specs.Searching.{Searchable, SelectionsOf, first_below}
 use Rattle.adding.proofs.Keyed.{none_below, some_below}
-use Rattle.adding.proofs.Listed.{refused_some}
-use Rattle.adding.proofs.Parsed.{parsed_refusal, parsed_read, parsed_case, parsed_held, targets_count}
+use Rattle.adding.proofs.Parsed.{parsed_refusal, parsed_case, targets_count}
 
 -- ---- What is asked of target and list, one after the other
 
@@ -81,11 +81,11 @@ module _ (s : List ℕ) (target : ℕ) (list : List ℕ) where
   answer_refused r e = rw (e, ne_eqb (refusal_says r).number 0 (refused_some r))
 
   -- reading's refusal
-  pub input_refused : (r : Refused) {rows : List ℕ} → ParsedAs s (Err r) rows → fewest_by (refusal_says r) 0 ≡ fewest_answer s target list
+  pub input_refused : (r : Refused) {rows : List ℕ} → ParsedAs s (parsed_in (Err r)) rows → fewest_by (refusal_says r) 0 ≡ fewest_answer s target list
   unfolding fewest_refusal
   input_refused r h = answer_refused r (rw (← parsed_refusal h) (or_else_this _ _ (refused_some r)))
 
-  module _ {counts : Counts} {rows : List ℕ} (h : ParsedAs s (Ok counts) rows) where
+  module _ {counts : Counts} {rows : List ℕ} (h : ParsedAs s (parsed_in (Ok counts)) rows) where
     abbrev missing : Refusal
     missing = refuse_unless (ltb (fewest_key (case_of s) target list) (key_count list)) 25 0
 
@@ -109,7 +109,7 @@ module _ (s : List ℕ) (target : ℕ) (list : List ℕ) where
     refusal_is : fewest_refusal s target list ≡ or_else (asked_fault counts target list) missing
     unfolding fewest_refusal asked_fault
     refusal_is =
-        rw (← parsed_read h) (or_else_next no_refusal _ refl)
+        rw (← parsed_refusal h) (or_else_next no_refusal _ refl)
         ∙ fault_is
         ∙ sym (or_else_assoc unfit (or_else absent unknown) missing ∙ ap (or_else unfit) (or_else_assoc absent unknown missing))
 
@@ -134,7 +134,7 @@ module _ (s : List ℕ) (target : ℕ) (list : List ℕ) where
       list_few e = omega (arith, list_short)
 
       pub target_low : target < 256
-      target_low = omega (arith, target_there, (parsed_held h).fit.targets_fit)
+      target_low = omega (arith, target_there, h.held.fit.targets_fit)
 
       known_there : (i : ℕ) → i < candidate_count list → candidate_known (case_in counts rows) (candidate_at list i) ≡ true
       unfolding unknown_at
@@ -160,10 +160,10 @@ module _ (s : List ℕ) (target : ℕ) (list : List ℕ) where
         pub searchable : Searchable counts pair rows list
         searchable =
             let c = case_in counts rows in
-            let shape_in : pair.shape.0 < length c.shapes = ltb-true _ _ (below (λ t. ltb t.shape.0 (length c.shapes)) (parsed_held h).sound.targets_named) in
-            let node_in : pair.node.0 < c.nodes = ltb-true _ _ (below (λ t. ltb t.node.0 c.nodes) (parsed_held h).sound.targets_known) in
+            let shape_in : pair.shape.0 < length c.shapes = ltb-true _ _ (below (λ t. ltb t.shape.0 (length c.shapes)) h.held.sound.targets_named) in
+            let node_in : pair.node.0 < c.nodes = ltb-true _ _ (below (λ t. ltb t.node.0 c.nodes) h.held.sound.targets_known) in
             record {
-              case_in_holds = parsed_held h;
+              case_in_holds = h.held;
               few_edges = edges_few;
               short = list_short;
               known = known_there;

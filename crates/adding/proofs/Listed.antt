@@ -8,6 +8,7 @@ use mathlib.Core.List.{List}
 use lib.ListN.{length}
 use lib.Dec.{eqb, ltb}
 use Rattle.std.specs.List.{list_any, range_with_len}
+use Rattle.cases.proofs.Faulted.{refused_some}
 use Rattle.cases.specs.Refusals.{no_refusal, refusal_says}
 use Rattle.cases.specs.declared.refusals.Refused.{Refused}
 use Rattle.cases.specs.declared.command.Edge.{Edge}
@@ -33,10 +34,6 @@ pub property_any : (list : List ℕ) (q : ℕ) {b : Bool} → b ≡ list_any (λ
     → b ≡ of_property list q
 unfolding of_property up_to
 property_any list q e = e ∙ any_from _ 0 (candidate_count list)
-
--- a refusal has a number
-pub refused_some : (r : Refused) → (refusal_says r).number ≡ 0 → ⊥
-refused_some r e = grind arith
 
 -- whether a candidate that was read is known
 module _ (list : List ℕ) (nodes i : ℕ) (row : Row) {edge : Edge} {known : Bool} (e : edge_of row ≡ candidate_at list i) (f : edge ≡ edge_of row)

@@ -4,6 +4,3 @@ use Rattle.justifying.proofs.digits.lower_next.Goals as goal
 
 pub returns-then-one : goal.returns-then-one
 returns-then-one c = search lower_one
-
-pub returns-else-one : goal.returns-else-one
-returns-else-one c = search lower_zero

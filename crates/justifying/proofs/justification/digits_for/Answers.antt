@@ -15,9 +15,6 @@ digits_over-requires-in-AtLeast-clause-block c = search (block_named, least_path
 pub digits_over-requires-in-AtLeast-clause-level_row : goal.digits_over-requires-in-AtLeast-clause-level_row
 digits_over-requires-in-AtLeast-clause-level_row c = search (level_row, least_known)
 
-pub returns-in_default : goal.returns-in_default
-returns-in_default c = digits_unused _
-
 pub returns-in-All : goal.returns-in-All
 returns-in-All c = search digits_of_all
 

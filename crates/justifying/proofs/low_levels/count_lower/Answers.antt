@@ -7,14 +7,8 @@ loop-i-init c = passing_none
 pub lower_word-requires : goal.lower_word-requires
 lower_word-requires c = search asked_common
 
-pub overflow_cast-n : goal.overflow_cast-n
-overflow_cast-n c = search passing_ones
-
 pub overflow_add-n : goal.overflow_add-n
 overflow_add-n c = search passing_fits
 
 pub loop-i-preserved : goal.loop-i-preserved
 loop-i-preserved c = search passing_more
-
-pub returns : goal.returns
-returns c = passing_done c.loop-i-test.false c.loop-i.invariant

@@ -2,8 +2,5 @@
 use Rattle.justifying.proofs.Lowered.{digits_long, digits_few, lower_by_digits}
 use Rattle.justifying.proofs.low_levels.lower_word.Goals as goal
 
-pub lower_in-requires : goal.lower_in-requires
-lower_in-requires c = search (digits_long, digits_few)
-
 pub returns : goal.returns
 returns c = search lower_by_digits

@@ -1,5 +1,6 @@
 -- `support::proposing::check_support` meets its contract, without levels. Assumes nothing.
-use Rattle.support.proofs.Passing.{refused_some, refused_on}
+use Rattle.cases.proofs.Faulted.{refused_some}
+use Rattle.support.proofs.Passing.{refused_on}
 use Rattle.support.proofs.ValueFaults.{checked_first, checked_next}
 use Rattle.support.proofs.proposing.check_support.Goals as goal
 

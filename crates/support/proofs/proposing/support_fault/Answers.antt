@@ -1,4 +1,5 @@
-use Rattle.support.proofs.Passing.{refused_some, refused_on}
+use Rattle.cases.proofs.Faulted.{refused_some}
+use Rattle.support.proofs.Passing.{refused_on}
 use Rattle.support.proofs.Supported.{supported_rows_first, supported_rows_all}
 use Rattle.support.proofs.proposing.support_fault.Goals as goal
 

@@ -1,4 +1,5 @@
-use Rattle.support.proofs.Passing.{refused_some, refused_on}
+use Rattle.cases.proofs.Faulted.{refused_some}
+use Rattle.support.proofs.Passing.{refused_on}
 use Rattle.support.proofs.Supported.{supported_more, supported_first}
 use Rattle.support.proofs.proposing.unsupported_row.Goals as goal
 
