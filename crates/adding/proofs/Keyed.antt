@@ -8,7 +8,7 @@ use mathlib.Core.Bool.{Bool, true, false}
 use mathlib.Core.List.{List}
 use lib.Count.{ones}
 use lib.ListN.{length}
-use lib.Dec.{eqb}
+use lib.Dec.{eqb, ltb}
 use borrow.Author.Tests.{eq-eqb, ne_eqb, lt-ltb, le-ltb}
 use mir.Syntax.{w64}
 use mir.Val.{Fits}
@@ -16,7 +16,8 @@ use lib.Pow.{pow_pos, pow_mono}
 use Rattle.std.specs.Prelude.{Some, None}
 use Rattle.bitset.specs.Words.{bit}
 use Rattle.bitset.proofs.Bits.{shifted, ones_count}
-use Rattle.fixpoint.proofs.Lists.{lt_cases, first_from_is, first_from_none}
+use Rattle.fixpoint.specs.Lists.{first_from}
+use Rattle.fixpoint.proofs.Lists.{by_test, lt_cases, first_from_is, first_from_none}
 use Rattle.semantics.specs.Adding.{candidate_count, chooses, chosen_count, key_count, key_size, key_selection}
 use Rattle.settling.specs.Settled.{solved_at}
 use Rattle.adding.specs.declared.asked.Asked.{Asked}
@@ -40,6 +41,16 @@ module _ (n : ℕ) (t : ℕ → Bool) (key : ℕ) (none : (k : ℕ) → k < key 
   first_nowhere : n ≤ key → None ≡ first_below n t
   unfolding first_below
   first_nowhere h = rw (first_from_none n 0 t (λ j a b. none j (omega arith)), zero-add n, le-ltb n n (omega arith))
+
+-- and what it is by the answer
+module _ (n : ℕ) (t : ℕ → Bool) where
+  pub none_below : None ≡ first_below n t → ltb (first_from n 0 t) n ≡ false
+  unfolding first_below
+  none_below e = by_test (ltb (first_from n 0 t) n) (λ y. let z = rw y at e in cc) (λ m. m)
+
+  pub some_below : (x : ℕ) → Some x ≡ first_below n t → (ltb (first_from n 0 t) n ≡ true) × (first_from n 0 t ≡ x)
+  unfolding first_below
+  some_below x e = by_test (ltb (first_from n 0 t) n) (λ y. let z = rw y at e in (y, cc)) (λ m. let z = rw m at e in cc)
 
 -- ---- The first key
 
@@ -85,11 +96,12 @@ module _ (asked : Asked) (key : ℕ) {n : ℕ} (v : SelectionsOf (candidate_coun
     tabled = t;
   }
 
-  pub this_size : {value : ℕ} {rows tables : List ℕ} → ones (key % n) ≡ key / n → Decided asked (key % n) value rows tables → KeyAsked asked key (eqb value 2) rows tables
+  pub this_size : {value : ℕ} {rows tables : List ℕ} {sure : Bool} → ones (key % n) ≡ key / n → Decided asked (key % n) value rows tables → sure ≡ eqb value 2
+      → KeyAsked asked key sure rows tables
   unfolding sure_over
-  this_size s u = record {
+  this_size s u e = record {
     is =
-        rw (eq-eqb (chosen_count asked.list.now (key_selection asked.list.now key)) (key_size asked.list.now key) (sym size_is ∙ s ∙ ap (λ x. key / x) v.is))
+        e ∙ rw (eq-eqb (chosen_count asked.list.now (key_selection asked.list.now key)) (key_size asked.list.now key) (sym size_is ∙ s ∙ ap (λ x. key / x) v.is))
         (ap (λ x. eqb x 2) (u.is ∙ ap (λ x. solved_at (case_selected asked (key % x)) asked.pair) v.is));
     tabled = u.tabled;
   }
