@@ -11,8 +11,12 @@ use lib.Seq.{take_all, take-length, length-take-le}
 use Rattle.fixpoint.proofs.Lists.{lt_cases}
 use Rattle.cases.specs.Reading.{Outcome}
 use Rattle.cases.specs.Rows.{case_in}
-use Rattle.reader.specs.Parsing.{Parsed}
-use Rattle.reader.specs.Parsing.{ParsedAs}
+use mir.Val.{bool_byte}
+use Rattle.std.specs.Prelude.{Result, Ok, Err}
+use Rattle.std.specs.Result.{result_unwrap_or}
+use Rattle.cases.specs.declared.counts.Counts.{Counts}
+use Rattle.cases.specs.declared.refusals.Refused.{Refused}
+use Rattle.reader.specs.Parsing.{Parsed, ParsedAs, parsed_in}
 use Rattle.semantics.specs.Operations.{case_of}
 use Rattle.semantics.specs.Unfinished.{held_case, after_round, advanced, advance_answer}
 use Rattle.semantics.specs.declared.ongoing.Unfinished.{Unfinished}
@@ -44,6 +48,20 @@ module _ (u : Unfinished) {n : ℕ} {p : Parsed} {rows : List ℕ} (long : lengt
   round_taken v e =
       let w = rw case_held at v in
       ap₂ (λ l t. record { bytes = u.bytes; length = u.length; values = l; pairs = u.pairs; over = t }) w.left (e ∙ ap (λ b. cond b 1 0) w.told)
+
+-- a truth as a number
+pub byte_of : (b : Bool) → bool_byte b ≡ cond b 1 0
+byte_of true = refl
+byte_of false = refl
+
+-- what is read, or nothing
+pub counts_held : (r : Result Counts Refused) {d k : Counts} → (d.nodes ≡ 0) × ((d.edges ≡ 0) × ((d.paths ≡ 0) × ((d.shapes ≡ 0) × (d.targets ≡ 0))))
+    → k ≡ result_unwrap_or r d → k ≡ (parsed_in r).counts
+counts_held (Ok x) z e = e
+counts_held (Err x) {d} z e =
+    let none : record { nodes = d.nodes; edges = d.edges; paths = d.paths; shapes = d.shapes; targets = d.targets } ≡ (parsed_in (Err x)).counts =
+    rw (z.0, z.1.0, z.1.1.0, z.1.1.1.0, z.1.1.1.1) in
+    e ∙ none
 
 -- a round is taken unless the end is reached
 module _ (u : Unfinished) where

@@ -3,6 +3,7 @@ ghost use Rattle.std.specs.Prelude.{◌≡◌};
 ghost use Rattle.semantics.specs.Unfinished.{held_case, after_round, advanced, advance_answer};
 
 use crate::working::work_round;
+use cases::counts::Counts;
 use reader::reading::parse;
 use semantics::ongoing::{Advanced, Unfinished};
 
@@ -14,7 +15,7 @@ fn take_round(u: Unfinished) -> Unfinished
     let mut values = u.values;
     let mut rows = [0u16; 5360];
     let n = u.length.min(8192);
-    let counts = parse(&bytes[..n], &mut rows).unwrap_or_default();
+    let counts = parse(&bytes[..n], &mut rows).unwrap_or(Counts::default());
     let over = work_round(counts, &rows, &earlier, &mut values);
     let mut after = u;
     after.values = values;

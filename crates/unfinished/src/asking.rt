@@ -9,7 +9,7 @@ use semantics::ongoing::{Certainty, Reply, Unfinished, certainty_of, held_value,
 fn byte_at(bytes: &[u8], at: usize) -> u8
     ensures { result ≡ get_or bytes.now at 0 }
 {
-    bytes.get(at).copied().unwrap_or(0)
+    if at < bytes.len() { bytes[at] } else { 0 }
 }
 
 fn certain_of(u: Unfinished, pair: usize) -> Certainty

@@ -1,6 +1,7 @@
 -- `unfinished::advancing::advance` meets its contract. Assumes nothing.
-use Rattle.unfinished.proofs.Holding.{advance_told}
+use mathlib.Core.Path.{◌∙◌}
+use Rattle.unfinished.proofs.Holding.{byte_of, advance_told}
 use Rattle.unfinished.proofs.advancing.advance.Goals as goal
 
 pub returns : goal.returns
-returns c = search advance_told
+returns c = advance_told c.args.u c.go_on-after.ensures (c.from.ensures ∙ byte_of _)
