@@ -1,16 +1,20 @@
 -- The chosen candidates in rows, the edges of a case with them, and the case that the rows hold. Assumes nothing.
-use Prim.Native.Nat.{ℕ, suc, ◌+◌, ◌*◌, ◌/◌, ◌≤◌, ◌<◌}
+use Prim.Native.Nat.{ℕ, zero, suc, ◌+◌, ◌-◌, ◌*◌, ◌/◌, ◌≤◌, ◌<◌}
 use native.Mathlib.Omega.{arith}
-use mathlib.Core.Path.{◌≡◌, refl, sym, ap, ◌∙◌}
+use mathlib.Core.Path.{◌≡◌, refl, sym, ap, ap₂, ◌∙◌}
 use mathlib.Core.Logic.{⊎_elim}
 use mathlib.Core.Bool.{Bool, true, false, cond}
 use mathlib.Core.List.{List, [], ◌∷◌, ◌++◌, map, append-nil, append_assoc, map-append, map-map}
-use lib.ListN.{length}
+use lib.ListN.{length, get_or, take}
+use lib.Seq.{get_or-take, length-take-le}
+use borrow.Rule.Slice.PartMut.{put_mid}
+use Rattle.std.proofs.Common.{rules}
+use Rattle.std.proofs.lemmas.List.{places}
 use Rattle.bitset.specs.Words.{bit}
 use Rattle.cases.specs.Counts.{Fit}
 use Rattle.cases.specs.Faults.{laid}
 use Rattle.cases.specs.Format.{edge_of, path_rule_of, shape_rule_of, target_of}
-use Rattle.cases.specs.Rows.{row_in, put_row, edge_in, path_in, shape_in, target_in, case_in, CaseIn, Full}
+use Rattle.cases.specs.Rows.{row_in, put_row, edge_in, path_in, shape_in, target_in, case_in}
 use Rattle.cases.specs.declared.command.Edge.{Edge}
 use Rattle.cases.specs.declared.command.Row.{Row}
 use Rattle.cases.specs.declared.counts.Counts.{Counts}
@@ -19,7 +23,7 @@ use Rattle.fixpoint.specs.Lists.{from, up_to, keep}
 use Rattle.fixpoint.proofs.Lists.{by_test, lt_cases, made_same, up_to_snoc, keep_append}
 use Rattle.semantics.specs.Adding.{candidate_at, candidate_count, chooses, chosen, unparked, with_links}
 use Rattle.semantics.specs.Parking.{with_edges}
-use Rattle.adding.specs.Choosing.{first_edges, ChosenTo, Behind, EdgesLaid, ChosenLaid, RowsWith}
+use Rattle.adding.specs.Choosing.{first_edges, ChosenTo, Behind, EdgesLaid, RowsWith}
 
 -- ---- The chosen ones
 
@@ -110,14 +114,6 @@ pub record LayingEdges (m : ℕ) (slice : List ℕ) (n : ℕ) (picked before : L
   pub most : i ≤ m
   pub long : length rows ≡ length before
 
--- the first j chosen ones are there
-pub record LayingChosen (m : ℕ) (slice : List ℕ) (n : ℕ) (picked before : List ℕ) (j : ℕ) (rows : List ℕ) : Type 0 where
-  pub few : m ≤ 1024
-  pub small : n ≤ 12
-  pub laid : ChosenLaid m slice n picked j rows
-  pub most : j ≤ n
-  pub long : length rows ≡ length before
-
 module _ {m : ℕ} {slice : List ℕ} {n : ℕ} {picked before : List ℕ} where
   pub edges_none : m ≤ 1024 → Behind slice before → LayingEdges m slice n picked before 0 before
   edges_none few v = record { few = few; laid = record { edges = λ i h. absurd (omega arith); behind = v }; most = omega arith; long = refl }
@@ -147,107 +143,50 @@ module _ {m : ℕ} {slice : List ℕ} {n : ℕ} {picked before : List ℕ} where
   pub edges_done : {i : ℕ} {rows : List ℕ} → m ≤ i → LayingEdges m slice n picked before i rows → EdgesLaid m slice n picked rows
   edges_done {i} a v = let e : i ≡ m = omega (arith, v.most) in rw e at v.laid
 
-  -- ---- The chosen ones behind them
+-- ---- The chosen ones behind them: a part of the rows is n rows of another table
 
-  pub behind_edges_none : m ≤ 1024 → n ≤ 12 → EdgesLaid m slice n picked before → LayingChosen m slice n picked before 0 before
-  unfolding up_to from
-  behind_edges_none few small v = record {
-    few = few;
-    small = small;
-    laid = record {
-      edges =
-          let e : m + 0 ≡ m = omega arith in
-          rw e
-          (made_same (edge_in before) (λ i. unparked (first_edges picked n) (edge_in slice i)) m v.edges
-          ∙ sym (map-map (unparked (first_edges picked n)) (edge_in slice) (up_to m))
-          ∙ sym (append-nil _));
-      behind = v.behind;
-    };
-    most = omega arith;
-    long = refl;
-  }
+made_none : {A : Type 0} (f : ℕ → A) → [] ≡ map f (up_to 0)
+unfolding up_to from
+made_none f = refl
 
-  module _ {j : ℕ} {rows : List ℕ} (h : j < n) (v : LayingChosen m slice n picked before j rows) where
-    pub behind_edges_room : 4 * (m + j) + 4 ≤ length rows
-    behind_edges_room = omega (arith, v.few, v.small, v.laid.behind.full.fits)
+made_on : {A : Type 0} (f : ℕ → A) (m n : ℕ) → map f (up_to (m + n)) ≡ map f (up_to m) ++ map (λ j. f (m + j)) (up_to n)
+made_on f m zero = let e : m + 0 ≡ m = omega arith in rw e (sym (append-nil _) ∙ ap (λ l. map f (up_to m) ++ l) (made_none (λ j. f (m + j))))
+made_on f m (suc n) =
+    let e : m + suc n ≡ suc (m + n) = omega arith in
+    let g = λ (j : ℕ). f (m + j) in
+    rw (e, up_to_snoc (m + n), up_to_snoc n, map-append f (up_to (m + n)) ((m + n) ∷ []), map-append g (up_to n) (n ∷ []), made_on f m n)
+    (append_assoc (map f (up_to m)) (map g (up_to n)) (f (m + n) ∷ []))
 
-    pub behind_edges_more : {row : Row} {rows' : List ℕ} → row ≡ row_in picked j → rows' ≡ put_row rows (m + j) row → LayingChosen m slice n picked before (j + 1) rows'
-    unfolding edge_in
-    behind_edges_more {row} e g = rw g (record {
-      few = v.few;
-      small = v.small;
-      laid = record {
-        edges =
-            let s : m + (j + 1) ≡ m + j + 1 = omega arith in
-            let t : j + 1 ≡ suc j = omega arith in
-            rw s
-            (kind_more rows (m + j) row edge_of (λ i. i) (m + j) refl (λ i h z. omega arith) behind_edges_room (ap edge_of e)
-            ∙ ap (λ l. l ++ (edge_in picked j ∷ [])) v.laid.edges
-            ∙ append_assoc (map (unparked (first_edges picked n)) (first_edges slice m)) (first_edges picked j) (edge_in picked j ∷ [])
-            ∙ ap (λ l. map (unparked (first_edges picked n)) (first_edges slice m) ++ l)
-            (sym (rw (t, up_to_snoc j) (map-append (edge_in picked) (up_to j) (j ∷ [])))));
-        behind = behind_kept v.laid.behind (omega (arith, v.few, v.small)) row;
-      };
-      most = omega arith;
-      long = length_put_row rows (m + j) row ∙ v.long;
-    })
+module _ (rows part : List ℕ) (m n : ℕ) (room : 4 * m + 4 * n ≤ length rows) (long : length part ≡ 4 * n) where
+  abbrev rows' : List ℕ
+  rows' = put_mid (4 * m) (4 * n) rows part
 
-  pub behind_edges_done : {j : ℕ} {rows : List ℕ} → n ≤ j → LayingChosen m slice n picked before j rows → ChosenLaid m slice n picked n rows
-  behind_edges_done {j} a v = let e : j ≡ n = omega (arith, v.most) in rw e at v.laid
+  part_before : (j : ℕ) → j < 4 * m → get_or rows' j 0 ≡ get_or rows j 0
+  part_before j h = search (rules, places)
 
--- ---- The rows that are no edges'
+  part_there : (i j : ℕ) → i ≡ 4 * m + j → j < 4 * n → get_or rows' i 0 ≡ get_or part j 0
+  part_there i j e h = rw e (search (rules, places))
 
--- those below i are copied
-pub record CopiedTo (i : ℕ) (slice before rows : List ℕ) : Type 0 where
-  pub others : (j : ℕ) → 1036 ≤ j → j < i → row_in rows j ≡ row_in slice j
-  pub full : Full rows
-  pub long : length rows ≡ length before
+  part_behind : (j : ℕ) → 4 * m + 4 * n ≤ j → get_or rows' j 0 ≡ get_or rows j 0
+  part_behind j h = search (rules, places)
 
-module _ {slice before : List ℕ} where
-  pub behind_none : Full before → CopiedTo 1036 slice before before
-  behind_none f = record { others = λ j a b. absurd (omega arith); full = f; long = refl }
+  rows_long : length rows' ≡ length rows
+  rows_long = search (rules, places)
 
-  pub behind_more : {i : ℕ} {rows rows' : List ℕ} {row : Row} → i < 1340 → CopiedTo i slice before rows → row ≡ row_in slice i → rows' ≡ put_row rows i row
-      → CopiedTo (i + 1) slice before rows'
-  behind_more {i} {rows} {row = row} h v e g = rw g (record {
-    others = λ j a b.
-        ⊎_elim
-        (λ l. put_row_other rows i row j (λ z. omega arith) ∙ v.others j a l)
-        (λ l. let z : j ≡ i = omega arith in rw z (put_row_there rows i row (omega (arith, v.full.fits)) ∙ e))
-        (lt_cases j i);
-    full = record { fits = omega (arith, v.full.fits, length_put_row rows i row) };
-    long = length_put_row rows i row ∙ v.long;
-  })
+  rows_before : (i : ℕ) → i < m → row_in rows' i ≡ row_in rows i
+  rows_before i h =
+      rw (part_before (4 * i) (omega arith), part_before (4 * i + 1) (omega arith), part_before (4 * i + 2) (omega arith), part_before (4 * i + 3) (omega arith))
 
-  pub behind_done : {i : ℕ} {rows : List ℕ} → 1340 ≤ i → CopiedTo i slice before rows → Behind slice rows
-  behind_done h v = record { others = λ j a b. v.others j a (omega arith); full = v.full }
+  rows_there : (j : ℕ) → j < n → row_in rows' (m + j) ≡ row_in part j
+  rows_there j h =
+      let at = λ (d : ℕ) (l : d < 4). part_there (4 * (m + j) + d) (4 * j + d) (omega arith) (omega arith) in
+      rw (part_there (4 * (m + j)) (4 * j) (omega arith) (omega arith), at 1 (omega arith), at 2 (omega arith), at 3 (omega arith))
+
+  rows_behind : (i : ℕ) → m + n ≤ i → row_in rows' i ≡ row_in rows i
+  rows_behind i h =
+      rw (part_behind (4 * i) (omega arith), part_behind (4 * i + 1) (omega arith), part_behind (4 * i + 2) (omega arith), part_behind (4 * i + 3) (omega arith))
 
 -- ---- The case that the rows hold
-
-rows_with : (counts : Counts) (list : List ℕ) (selection : ℕ) {slice picked rows : List ℕ} {n : ℕ} → Fit counts → length list ≤ 60
-    → ChosenTo list selection (candidate_count list) n picked → ChosenLaid counts.edges slice n picked n rows → {r : Counts}
-    → r ≡ record { nodes = counts.nodes; edges = counts.edges + n; paths = counts.paths; shapes = counts.shapes; targets = counts.targets }
-    → RowsWith counts slice list selection r rows
-unfolding case_in with_links with_edges chosen path_in shape_in target_in
-rows_with counts list selection {slice} {picked} {rows} {n} fit short u v e = rw e (record {
-  case =
-      let all_chosen : first_edges picked n ≡ chosen list selection = u.edges in
-      λ i. record {
-        nodes = counts.nodes;
-        edges = (v.edges ∙ ap (λ l. map (unparked l) (first_edges slice counts.edges) ++ l) all_chosen) i;
-        paths = made_same (path_in rows) (path_in slice) counts.paths (λ p h. ap path_rule_of (v.behind.others (1036 + p) (omega arith) (omega (arith, fit.paths_fit)))) i;
-        shapes = made_same (shape_in rows) (shape_in slice) counts.shapes (λ s h. ap shape_rule_of (v.behind.others (1052 + s) (omega arith) (omega (arith, fit.shapes_fit)))) i;
-        targets = made_same (target_in rows) (target_in slice) counts.targets (λ t h. ap target_of (v.behind.others (1084 + t) (omega arith) (omega (arith, fit.targets_fit)))) i;
-      };
-  nodes = refl;
-  paths = refl;
-  shapes = refl;
-  targets = refl;
-  few = omega (arith, u.few);
-  behind = v.behind;
-})
-
--- ---- The same, by a sound case
 
 module _ (list : List ℕ) (selection : ℕ) {picked : List ℕ} {n : ℕ} (short : length list ≤ 60) (u : ChosenTo list selection (candidate_count list) n picked) where
   pub chosen_few : n ≤ 12
@@ -256,7 +195,52 @@ module _ (list : List ℕ) (selection : ℕ) {picked : List ℕ} {n : ℕ} (shor
   pub chosen_fit : 4 * n ≤ length picked
   chosen_fit = omega (arith, u.few, u.room)
 
-  pub rows_hold : {counts : Counts} {slice rows : List ℕ} → CaseIn counts slice → ChosenLaid counts.edges slice n picked n rows
-      → RowsWith counts slice list selection
-      (record { nodes = counts.nodes; edges = counts.edges + n; paths = counts.paths; shapes = counts.shapes; targets = counts.targets }) rows
-  rows_hold {counts} k v = rows_with counts list selection k.fit short u v refl
+  module _ (counts : Counts) (limit : counts.edges ≤ 1024) {slice rows : List ℕ} (v : EdgesLaid counts.edges slice n picked rows) where
+    pub chosen_within : 4 * counts.edges + 4 * n ≤ length rows
+    chosen_within = omega (arith, chosen_few, v.behind.full.fits)
+
+    pub chosen_long : 4 * counts.edges + 4 * n - 4 * counts.edges ≡ length (take (4 * n) picked)
+    chosen_long = omega (arith, length-take-le (4 * n) picked chosen_fit)
+
+    pub rows_hold : Fit counts → {part : List ℕ} → part ≡ take (4 * n) picked
+        → RowsWith counts slice list selection
+        (record { nodes = counts.nodes; edges = counts.edges + n; paths = counts.paths; shapes = counts.shapes; targets = counts.targets })
+        (put_mid (4 * counts.edges) (4 * counts.edges + 4 * n - 4 * counts.edges) rows part)
+    unfolding case_in with_links with_edges chosen edge_in path_in shape_in target_in
+    rows_hold fit {part} e =
+        let m = counts.edges in
+        let t = put_mid (4 * m) (4 * n) rows part in
+        let count : 4 * m + 4 * n - 4 * m ≡ 4 * n = omega arith in
+        let long : length part ≡ 4 * n = ap length e ∙ length-take-le (4 * n) picked chosen_fit in
+        let behind : (i : ℕ) → 1036 ≤ i → i < 1340 → row_in t i ≡ row_in slice i =
+        λ i a b. rows_behind rows part m n chosen_within long i (omega (arith, chosen_few)) ∙ v.behind.others i a b in
+        let taken : (j : ℕ) → j < 4 * n → get_or part j 0 ≡ get_or picked j 0 = λ j h. ap (λ l. get_or l j 0) e ∙ get_or-take (4 * n) picked j 0 h in
+        let all_chosen : first_edges picked n ≡ chosen list selection = u.edges in
+        let edges : first_edges t (m + n) ≡ map (unparked (first_edges picked n)) (first_edges slice m) ++ first_edges picked n =
+        made_on (edge_in t) m n
+        ∙ ap₂ (λ a b. a ++ b)
+        (made_same (edge_in t) (λ i. unparked (first_edges picked n) (edge_in slice i)) m
+        (λ i h. ap edge_of (rows_before rows part m n chosen_within long i h) ∙ v.edges i h)
+        ∙ sym (map-map (unparked (first_edges picked n)) (edge_in slice) (up_to m)))
+        (made_same (λ j. edge_in t (m + j)) (edge_in picked) n
+        (λ j h. ap edge_of (rows_there rows part m n chosen_within long j h
+        ∙ rw (taken (4 * j) (omega arith), taken (4 * j + 1) (omega arith), taken (4 * j + 2) (omega arith), taken (4 * j + 3) (omega arith))))) in
+        rw count (record {
+          case =
+              λ i. record {
+                nodes = counts.nodes;
+                edges = (edges ∙ ap (λ l. map (unparked l) (first_edges slice counts.edges) ++ l) all_chosen) i;
+                paths = made_same (path_in t) (path_in slice) counts.paths (λ p h. ap path_rule_of (behind (1036 + p) (omega arith) (omega (arith, fit.paths_fit)))) i;
+                shapes = made_same (shape_in t) (shape_in slice) counts.shapes (λ s h. ap shape_rule_of (behind (1052 + s) (omega arith) (omega (arith, fit.shapes_fit)))) i;
+                targets = made_same (target_in t) (target_in slice) counts.targets (λ t h. ap target_of (behind (1084 + t) (omega arith) (omega (arith, fit.targets_fit)))) i;
+              };
+          nodes = refl;
+          paths = refl;
+          shapes = refl;
+          targets = refl;
+          few = omega (arith, chosen_few);
+          behind = record {
+            others = behind;
+            full = record { fits = omega (arith, v.behind.full.fits, rows_long rows part m n chosen_within long) };
+          };
+        })

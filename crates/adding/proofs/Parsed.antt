@@ -5,7 +5,7 @@ use mathlib.Core.List.{List}
 use lib.ListN.{length}
 use Rattle.cases.specs.Reading.{Outcome, outcome}
 use Rattle.cases.specs.Rows.{case_in}
-use Rattle.cases.specs.declared.answers.Parsed.{Parsed}
+use Rattle.reader.specs.Parsing.{Parsed}
 use Rattle.cases.specs.declared.counts.Counts.{Counts}
 use Rattle.cases.proofs.InRows.{targets_in}
 use Rattle.fixpoint.proofs.Lists.{length_made}

@@ -9,6 +9,7 @@ use mathlib.Core.Bool.{Bool, true, ◌&&◌}
 use mathlib.Core.List.{List}
 use lib.ListN.{length, get_or}
 use lib.Dec.{eqb, ltb}
+use Rattle.std.specs.Prelude.{Option}
 use Rattle.bitset.specs.Words.{bit}
 use Rattle.cases.specs.Case.{Case, shape_rule, path_rule, paths_of_shape, references}
 use Rattle.cases.specs.Faults.{shape_nodes_known, shape_paths_earlier, shape_least_positive}
@@ -20,7 +21,7 @@ use Rattle.cases.specs.declared.command.ShapeRule.TheVariants.{Top}
 use Rattle.cases.specs.declared.command.Target.{Target}
 use Rattle.cases.specs.declared.counts.Counts.{Counts}
 use Rattle.cases.proofs.InRows.{nodes_in, shapes_in, shape_rule_in}
-use Rattle.fixpoint.specs.Lists.{up_to, all, first_from}
+use Rattle.fixpoint.specs.Lists.{up_to, all}
 use Rattle.fixpoint.proofs.Lists.{by_test, made_same, all_map, all_up_to_in, all_up_to_of}
 use Rattle.references.specs.Reaching.{Reaches}
 use Rattle.references.specs.Referring.{ShapesIn}
@@ -34,7 +35,7 @@ use Rattle.semantics.proofs.AgreeingCases.{AgreeingOn, every, solved_values_agre
 use Rattle.semantics.proofs.Pairs.{shape_of_pair}
 use Rattle.settling.specs.Settled.{solved_at}
 use Rattle.adding.specs.Deciding.{sure_over}
-use Rattle.adding.specs.Searching.{Searchable}
+use Rattle.adding.specs.Searching.{Searchable, first_below}
 use Rattle.adding.specs.Slicing.{SlicedTo}
 use Rattle.adding.proofs.Sliced.{sliced_full}
 
@@ -134,9 +135,9 @@ module _ {counts : Counts} {pair : Target} {rows list : List ℕ} (q : Searchabl
         ap (λ n. get_or (solved_values (with_links slice (chosen list selection))) n 0) (same_pair selection)
         ∙ sym (solved_values_agrees (agree_with selection) _ (rw (in_slice selection)))
 
-    pub sliced_key : {r : ℕ} → r ≡ first_from (key_count list) 0 (sure_over slice pair list) → r ≡ first_from (key_count list) 0 (sure_over whole pair list)
+    pub sliced_key : {r : Option ℕ} → r ≡ first_below (key_count list) (sure_over slice pair list) → r ≡ first_below (key_count list) (sure_over whole pair list)
     unfolding sure_over
     sliced_key e =
         e
-        ∙ (λ i. first_from (key_count list) 0
+        ∙ (λ i. first_below (key_count list)
         (λ key. eqb (chosen_count list (key_selection list key)) (key_size list key) && eqb (same_value (key_selection list key) i) 2))

@@ -1,15 +1,16 @@
 -- What no candidate touches is the same with every selection, and is made once. Assumes nothing.
-use Prim.Native.Nat.{ℕ, ◌+◌, ◌≤◌, ◌<◌}
+use Prim.Native.Nat.{ℕ, ◌+◌, ◌*◌, ◌≤◌, ◌<◌}
 use native.Mathlib.Omega.{arith}
 use mathlib.Core.Path.{◌≡◌, refl, sym, ap, ◌∙◌}
 use mathlib.Core.Bool.{Bool, true, false, not, ◌&&◌, ◌||◌, false≢true, and-eq-true_iff, or-false}
 use mathlib.Core.List.{List, [], ◌∷◌}
-use lib.ListN.{length}
+use lib.ListN.{length, get_or, take}
+use lib.Seq.{get_or-take, length-take-le}
 use lib.Dec.{eqb}
 use borrow.Author.Tests.{not-true}
 use Rattle.bitset.specs.Words.{bit, Without}
 use Rattle.cases.specs.Case.{Case, edge_is, path_rule, paths_of_path}
-use Rattle.cases.specs.Rows.{path_in, case_in, CaseIn}
+use Rattle.cases.specs.Rows.{path_in, case_in, CaseIn, Full}
 use Rattle.cases.specs.declared.command.PathRule.{PathRule}
 use Rattle.cases.specs.declared.command.PathRule.TheVariants.{Forward, Backward, Union, Sequence, Star}
 use Rattle.cases.specs.declared.counts.Counts.{Counts}
@@ -23,6 +24,7 @@ use Rattle.semantics.specs.Parking.{with_edges}
 use Rattle.semantics.specs.Paths.{linked, fills}
 use Rattle.semantics.proofs.Adding.{linked_with, chosen_laid, rule_spared, Spared, fills_spared}
 use Rattle.adding.specs.Candidates.{of_property}
+use Rattle.adding.specs.Choosing.{Behind}
 use Rattle.adding.specs.Searching.{BaseLaid}
 use Rattle.adding.specs.Touching.{by_property, touches, TouchedBelow}
 
@@ -87,7 +89,19 @@ module _ {counts : Counts} {slice list : List ℕ} {touched : ℕ} (t : TouchedB
   fills_with : (p a b : ℕ) → bit touched p ≡ false → fills (with_links base (chosen list selection)) p a b ≡ fills base p a b
   fills_with p a b n = fills_spared spared_with p (ap not n) a b
 
--- ---- The tables before the first selection
+-- ---- Rows and tables before the first selection
+
+module _ {slice : List ℕ} (f : Full slice) where
+  pub copied_long : 5360 ≡ length (take 5360 slice)
+  copied_long = sym (length-take-le 5360 slice f.fits)
+
+  pub behind_copied : {rows : List ℕ} → rows ≡ take 5360 slice → Behind slice rows
+  behind_copied e =
+      let kept : (j : ℕ) → j < 5360 → get_or (take 5360 slice) j 0 ≡ get_or slice j 0 = λ j h. get_or-take 5360 slice j 0 h in
+      rw e (record {
+        others = λ i l m. rw (kept (4 * i) (omega arith), kept (4 * i + 1) (omega arith), kept (4 * i + 2) (omega arith), kept (4 * i + 3) (omega arith));
+        full = record { fits = omega (arith, copied_long) };
+      })
 
 pub base_laid : {counts : Counts} {slice list tables tables' tables'' : List ℕ} {made touched held : ℕ} → CaseIn counts slice → 769 + set_words counts ≤ length tables
     → SetsLaid counts slice 0 tables made tables' → LinksLaid counts slice tables' tables'' → TouchedBelow counts slice list counts.paths touched
@@ -96,7 +110,7 @@ base_laid {counts} {slice} {made = made} {touched} {held} c room u l t o =
     let both : (p : ℕ) → p < counts.paths → bit held p ≡ true → (bit made p ≡ true) × (not (bit touched p) ≡ true) =
     λ p h y. (and-eq-true_iff (bit made p) (not (bit touched p))).0 (sym (o.bits p (omega (arith, c.fit.paths_fit))) ∙ y) in
     record {
-      spared = λ selection p a b h y. fills_with t selection p a b (not-true (bit touched p) (both p h y).1);
+      spared = record { same = λ selection p a b h y. fills_with t selection p a b (not-true (bit touched p) (both p h y).1) };
       room = omega (arith, room, u.long, l.long);
       linked = l.linked;
       right = rw l.sets_kept (record { members = λ p a b h y. u.held.members p a b h (both p (omega (arith, paths_in counts slice)) y).0 });

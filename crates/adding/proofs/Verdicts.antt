@@ -24,9 +24,10 @@ use Rattle.semantics.specs.Parking.{with_edges}
 use Rattle.semantics.specs.Paths.{fills}
 use Rattle.semantics.proofs.Adding.{sound_with, chosen_known}
 use Rattle.settling.specs.Settled.{solved_at}
-use Rattle.adding.specs.declared.deciding.Asked.{Asked}
+use Rattle.adding.specs.declared.asked.Asked.{Asked}
 use Rattle.adding.specs.Choosing.{RowsWith}
-use Rattle.adding.specs.Deciding.{Question, Tabled, Askable, PreparedWith, Decided}
+use Rattle.adding.specs.Searching.{Question}
+use Rattle.adding.specs.Deciding.{case_asked, case_selected, Tabled, PreparedWith, Decided}
 
 -- what is held of a case is held of another with the same fillers of these paths
 held_alike : {c d : Case} {w held : ℕ} {sets : List ℕ} → c.nodes ≡ d.nodes → length c.paths ≡ length d.paths
@@ -36,10 +37,9 @@ held_alike {c} {d} {w} {sets = sets} n l f v = record {
       ap (λ m. member sets w (1 + p * m + b) a) (sym n) ∙ v.members p a b (rw l h) y (rw n g) o ∙ ap₂ (λ m x. ltb a m && x) n (f p a b h y);
 }
 
-module _ {asked : Asked} {slice list : List ℕ} (q : Question asked slice list) {selection : ℕ} {r : Counts} {rows' : List ℕ}
-    (v : RowsWith asked.counts slice list selection r rows') where
-  abbrev base : Case
-  base = case_in asked.counts slice
+module _ (asked : Asked) {selection : ℕ} {r : Counts} {rows' : List ℕ} (v : RowsWith asked.counts asked.slice.now asked.list.now selection r rows') where
+  abbrev q : Question asked.counts asked.slice.now asked.pair asked.list.now asked.held
+  q = asked.question
 
   words_same : words_of r ≡ words_of asked.counts
   unfolding words_of
@@ -62,41 +62,42 @@ module _ {asked : Asked} {slice list : List ℕ} (q : Question asked slice list)
         targets_fit = rw v.targets f.targets_fit;
       }
 
-  case_with : CaseIn r rows'
-  case_with = record {
-    sound = rw v.case (sound_with (chosen list selection) q.searchable.case_in_holds.sound (chosen_known base list selection q.searchable.known));
+  pub selected_in : CaseIn r rows'
+  selected_in = record {
+    sound = rw v.case
+        (sound_with (chosen asked.list.now selection) q.searchable.case_in_holds.sound (chosen_known (case_asked asked) asked.list.now selection q.searchable.known));
     fit = fit_with;
     full = v.behind.full;
   }
 
-  nodes_with : (with_links base (chosen list selection)).nodes ≡ base.nodes
+  nodes_with : (case_selected asked selection).nodes ≡ (case_asked asked).nodes
   unfolding with_links with_edges
   nodes_with = refl
 
-  paths_with : (with_links base (chosen list selection)).paths ≡ base.paths
+  paths_with : (case_selected asked selection).paths ≡ (case_asked asked).paths
   unfolding with_links with_edges
   paths_with = refl
 
-  paths_below : (p : ℕ) → p < length base.paths → p < asked.counts.paths
-  paths_below p h = omega (arith, paths_in asked.counts slice)
+  paths_below : (p : ℕ) → p < length (case_asked asked).paths → p < asked.counts.paths
+  paths_below p h = omega (arith, paths_in asked.counts asked.slice.now)
 
-  held_with : (tables : List ℕ) → ConverseHeld base (words_of asked.counts) asked.held (sets_in tables)
+  held_with : (tables : List ℕ) → ConverseHeld (case_asked asked) (words_of asked.counts) asked.held (sets_in tables)
       → ConverseHeld (case_in r rows') (words_of r) asked.held (sets_in tables)
   held_with tables h =
       rw (v.case, words_same)
-      (held_alike (sym nodes_with) (ap length (sym paths_with)) (λ p a b l y. sym (q.spared selection p a b (paths_below p (rw paths_with at l)) y)) h)
+      (held_alike (sym nodes_with) (ap length (sym paths_with)) (λ p a b l y. sym (q.spared.same selection p a b (paths_below p (rw paths_with at l)) y)) h)
 
   held_back : (tables : List ℕ) → ConverseHeld (case_in r rows') (words_of r) asked.held (sets_in tables)
-      → ConverseHeld base (words_of asked.counts) asked.held (sets_in tables)
+      → ConverseHeld (case_asked asked) (words_of asked.counts) asked.held (sets_in tables)
   held_back tables h =
-      held_alike nodes_with (ap length paths_with) (λ p a b l y. q.spared selection p a b (paths_below p l) y) (rw (v.case, words_same) at h)
+      held_alike nodes_with (ap length paths_with) (λ p a b l y. q.spared.same selection p a b (paths_below p l) y) (rw (v.case, words_same) at h)
 
   -- who refers to whom is the same
-  shape_with : (s : ℕ) → s < asked.counts.shapes → shape_in rows' s ≡ shape_in slice s
+  shape_with : (s : ℕ) → s < asked.counts.shapes → shape_in rows' s ≡ shape_in asked.slice.now s
   unfolding shape_in
   shape_with s h = ap shape_rule_of (v.behind.others (1052 + s) (omega arith) (omega (arith, q.searchable.case_in_holds.fit.shapes_fit)))
 
-  links_with : {links : List ℕ} → Linked asked.counts slice links → Linked r rows' links
+  links_with : {links : List ℕ} → Linked asked.counts asked.slice.now links → Linked r rows' links
   links_with k = record {
     few = rw v.shapes k.few;
     room = k.room;
@@ -105,15 +106,15 @@ module _ {asked : Asked} {slice list : List ℕ} (q : Question asked slice list)
         ∙ rw v.shapes (and_where (ltb s asked.counts.shapes) (λ y. ap (refers_to n t) (sym (shape_with s (ltb-true s asked.counts.shapes y)))));
   }
 
-  module _ {rows tables : List ℕ} (t : Tabled asked slice rows tables) where
-    room_with : 769 + set_words r ≤ length tables
+  module _ {rows tables : List ℕ} (t : Tabled asked rows tables) where
+    pub room_with : 769 + set_words r ≤ length tables
     room_with = omega (arith, set_words_same, t.room)
 
-    held_there : ConverseHeld (case_in r rows') (words_of r) asked.held (sets_in tables)
+    pub held_there : ConverseHeld (case_in r rows') (words_of r) asked.held (sets_in tables)
     held_there = held_with tables t.held
 
     module _ {made : ℕ} {tables' : List ℕ} (u : SetsLaid r rows' asked.held tables made tables') where
-      laid_long : 769 ≤ length tables'
+      pub laid_long : 769 ≤ length tables'
       laid_long = omega (arith, u.long, t.room)
 
       module _ {tables'' : List ℕ} (w : CountersLaid r rows' tables' tables'') where
@@ -128,7 +129,7 @@ module _ {asked : Asked} {slice list : List ℕ} (q : Question asked slice list)
           room = omega (arith, laid_long, w.long);
         }
 
-        tabled_with : Tabled asked slice rows' tables''
+        tabled_with : Tabled asked rows' tables''
         tabled_with = record {
           behind = v.behind;
           room = omega (arith, t.room, u.long, w.long);
@@ -139,7 +140,7 @@ module _ {asked : Asked} {slice list : List ℕ} (q : Question asked slice list)
             few_paths : (p : ℕ) → p < length (case_in r rows').paths → p < 64
             few_paths p h = omega (arith, paths_in r rows', fit_with.paths_fit)
 
-        prepares_with : PreparedWith asked slice list selection r rows' tables''
+        pub prepares_with : PreparedWith asked selection r rows' tables''
         prepares_with = record {
           case = v.case;
           prepared = prepared_with;
@@ -148,26 +149,6 @@ module _ {asked : Asked} {slice list : List ℕ} (q : Question asked slice list)
           tabled = tabled_with;
         }
 
-pub decided : {asked : Asked} {slice list : List ℕ} {selection : ℕ} {r : Counts} {rows tables : List ℕ} {value : ℕ}
-    → PreparedWith asked slice list selection r rows tables → value ≡ solved_at (case_in r rows) asked.pair → Decided asked slice list selection value rows tables
+pub decided : {asked : Asked} {selection : ℕ} {r : Counts} {rows tables : List ℕ} {value : ℕ}
+    → PreparedWith asked selection r rows tables → value ≡ solved_at (case_in r rows) asked.pair → Decided asked selection value rows tables
 decided {asked} v e = record { is = e ∙ ap (λ c. solved_at c asked.pair) v.case; tabled = v.tabled }
-
--- ---- The same, by what is asked
-
-module _ {asked : Asked} {slice list rows tables : List ℕ} (k : Askable asked slice list rows tables) {selection : ℕ} {r : Counts} {rows' : List ℕ}
-    (v : RowsWith asked.counts slice list selection r rows') where
-  pub case_asked : CaseIn r rows'
-  case_asked = case_with k.question v
-
-  pub room_asked : 769 + set_words r ≤ length tables
-  room_asked = room_with k.question v k.tabled
-
-  pub held_asked : ConverseHeld (case_in r rows') (words_of r) asked.held (sets_in tables)
-  held_asked = held_there k.question v k.tabled
-
-  module _ {made : ℕ} {tables' : List ℕ} (u : SetsLaid r rows' asked.held tables made tables') where
-    pub laid_asked : 769 ≤ length tables'
-    laid_asked = laid_long k.question v k.tabled u
-
-    pub prepares_asked : {tables'' : List ℕ} → CountersLaid r rows' tables' tables'' → PreparedWith asked slice list selection r rows' tables''
-    prepares_asked w = prepares_with k.question v k.tabled u w

@@ -1,11 +1,9 @@
--- What is refused before the search, and what its end answers. Assumes nothing.
-use Rattle.std.specs.Prelude.{ℕ, ◌+◌, ◌*◌, ◌%◌, ◌^◌, cond, List, length, ltb}
-use Rattle.cases.specs.Refusals.{Refusal, no_refusal}
+-- What is refused before the search. Assumes nothing.
+use Rattle.std.specs.Prelude.{ℕ, List, length, ltb}
+use Rattle.cases.specs.Refusals.{Refusal}
 use Rattle.cases.specs.declared.counts.Counts.{Counts}
 use Rattle.fixpoint.specs.Lists.{up_to}
-use Rattle.semantics.specs.declared.answers.Fewest.{Fewest}
 use Rattle.semantics.specs.Adding.{candidate_count, list_fits}
-use Rattle.semantics.specs.Answered.{fewest_by}
 use Rattle.semantics.specs.Operations.{or_else, first_of, refuse_unless}
 use Rattle.adding.specs.Candidates.{unknown_at}
 
@@ -15,8 +13,3 @@ asked_fault counts target list =
     or_else (refuse_unless (list_fits list) 23 (length list))
     (or_else (refuse_unless (ltb target counts.targets) 24 0)
     (first_of (up_to (candidate_count list)) (unknown_at list counts.nodes)))
-
--- a key of so many candidates is its selection, and where there is none it is 25
-unfoldable pub key_answer : ℕ → ℕ → Fewest
-key_answer candidates key =
-    cond (ltb key ((candidates + 1) * 2 ^ candidates)) (fewest_by no_refusal (key % 2 ^ candidates)) (fewest_by (record { number = 25; place = 0 }) 0)

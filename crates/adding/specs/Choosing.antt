@@ -1,5 +1,5 @@
 -- The chosen candidates in rows, and the rows of the case with them. Assumes nothing.
-use Rattle.std.specs.Prelude.{ℕ, ◌+◌, ◌≤◌, ◌<◌, ◌≡◌, List, map, ◌++◌, length}
+use Rattle.std.specs.Prelude.{ℕ, ◌+◌, ◌≤◌, ◌<◌, ◌≡◌, List, map, length}
 use Rattle.cases.specs.Rows.{row_in, edge_in, case_in, Full}
 use Rattle.cases.specs.declared.command.Edge.{Edge}
 use Rattle.cases.specs.declared.counts.Counts.{Counts}
@@ -25,11 +25,6 @@ pub record Behind (slice rows : List ℕ) : Type 0 where
 -- the rows begin with the edges of the case, in which each chosen one is laid
 pub record EdgesLaid (bound : ℕ) (slice : List ℕ) (n : ℕ) (picked rows : List ℕ) : Type 0 where
   pub edges : (i : ℕ) → i < bound → edge_in rows i ≡ unparked (first_edges picked n) (edge_in slice i)
-  pub behind : Behind slice rows
-
--- so they do, and so many of the chosen ones are behind them
-pub record ChosenLaid (bound : ℕ) (slice : List ℕ) (n : ℕ) (picked : List ℕ) (j : ℕ) (rows : List ℕ) : Type 0 where
-  pub edges : first_edges rows (bound + j) ≡ map (unparked (first_edges picked n)) (first_edges slice bound) ++ first_edges picked j
   pub behind : Behind slice rows
 
 -- the rows hold the case with the chosen edges

@@ -1,15 +1,16 @@
 // Candidates: five bytes each, an edge's operands one after another, read as the rows of 02 commands.
 ghost use Rattle.std.specs.Prelude.{◌≡◌, ◌&&◌, ◌+◌, ◌*◌, ◌%◌, ◌≤◌, eqb, leb, ltb, length};
 ghost use Rattle.cases.specs.Format.{edge_of};
+ghost use Rattle.cases.specs.Refusals.{refusal_in};
 ghost use Rattle.fixpoint.specs.Lists.{up_to};
 ghost use Rattle.semantics.specs.Adding.{candidate_at, candidate_count};
 ghost use Rattle.semantics.specs.Operations.{first_of};
 ghost use Rattle.adding.specs.Candidates.{unknown_at, of_property};
 
-use cases::answers::{Refusal, no_refusal};
-use cases::command::{Edge, Row, edge_of};
+use cases::command::{Edge, Row};
 use cases::format::number_at;
-use semantics::refusals::refuse_unless;
+use cases::refusals::{Fault, Refused};
+use semantics::refusals::refused_unless;
 
 pub fn candidate_row(list: &[u8], i: usize) -> Row
     requires { 5 * i + 5 ≤ length list.now }
@@ -38,41 +39,21 @@ fn is_known(edge: Edge, nodes: usize) -> bool
     edge.subject.0 < nodes && edge.object.0 < nodes
 }
 
-// Candidate i, by its position from 1, unless its nodes are among the first so many.
-fn unknown_at(list: &[u8], nodes: usize, i: usize) -> Refusal
-    requires { 5 * i + 5 ≤ length list.now }
-    ensures { result ≡ unknown_at list.now nodes i }
+// The first candidate, by its position from 1, whose nodes are not both among the first so many.
+pub fn first_unknown(list: &[u8], nodes: usize) -> Result<(), Refused>
+    ensures { refusal_in result ≡ first_of (up_to (candidate_count list.now)) (unknown_at list.now nodes) }
 {
-    let edge = edge_of(candidate_row(list, i));
-    refuse_unless(is_known(edge, nodes), 24, i + 1)
-}
-
-// The first such candidate.
-pub fn first_unknown(list: &[u8], nodes: usize) -> Refusal
-    ensures { result ≡ first_of (up_to (candidate_count list.now)) (unknown_at list.now nodes) }
-{
-    let count = list.len() / 5;
     // those below i are known
-    for i in 0..count {
-        let refusal = unknown_at(list, nodes, i);
-        if refusal.number != 0 {
-            return refusal;
-        }
+    for i in 0..list.len() / 5 {
+        let edge = Edge::from(candidate_row(list, i));
+        refused_unless(is_known(edge, nodes), Fault::NotInCase, i + 1)?;
     }
-    no_refusal()
+    Ok(())
 }
 
 // Whether a candidate is of the property.
 pub fn is_candidate_property(list: &[u8], property: usize) -> bool
     ensures { result ≡ of_property list.now property }
 {
-    let count = list.len() / 5;
-    // none of those below i is
-    for i in 0..count {
-        let edge = edge_of(candidate_row(list, i));
-        if edge.property.0 == property {
-            return true;
-        }
-    }
-    false
+    (0..list.len() / 5).any(|i| Edge::from(candidate_row(list, i)).property.0 == property)
 }

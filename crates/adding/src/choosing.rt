@@ -4,13 +4,13 @@ ghost use Rattle.cases.specs.Format.{edge_of};
 ghost use Rattle.cases.specs.Rows.{edge_in, Full, CaseIn};
 ghost use Rattle.fixpoint.specs.Lists.{up_to};
 ghost use Rattle.semantics.specs.Adding.{candidate_count, unparked};
-ghost use Rattle.adding.specs.Choosing.{ChosenTo, Behind, EdgesLaid, ChosenLaid, RowsWith};
+ghost use Rattle.adding.specs.Choosing.{ChosenTo, Behind, EdgesLaid, RowsWith};
 
 use crate::candidates::candidate_row;
 use bitset::words::has_bit;
-use cases::command::{LAID, Row, edge_of};
+use cases::command::{Edge, LAID, Row};
 use cases::counts::Counts;
-use cases::rows::{PATHS, put_row, row_in};
+use cases::rows::{put_row, row_in};
 use fitness::parking::is_laid;
 
 // Puts candidate i behind the n chosen ones before it if it is chosen, and answers how many they are now.
@@ -47,7 +47,7 @@ fn unparked_row(row: Row, n: usize, chosen: &[u16]) -> Row
     requires { 4 * n ≤ length chosen.now }
     ensures { edge_of result ≡ unparked (map (edge_in chosen.now) (up_to n)) (edge_of row) }
 {
-    let edge = edge_of(row);
+    let edge = Edge::from(row);
     if edge.code == LAID {
         return row;
     }
@@ -71,32 +71,6 @@ fn lay_edges(edges: usize, slice: &[u16], n: usize, chosen: &[u16], rows: &mut [
     }
 }
 
-// Puts the chosen ones behind them.
-fn lay_chosen(edges: usize, slice: &[u16], n: usize, chosen: &[u16], rows: &mut [u16])
-    requires edges_bound { edges ≤ 1024 }
-    requires n_bound { n ≤ 12 }
-    requires n_in_bounds { 4 * n ≤ length chosen.now }
-    requires edges_laid { EdgesLaid edges slice.now n chosen.now rows.old }
-    ensures { ChosenLaid edges slice.now n chosen.now n rows.new }
-{
-    // the first j of them are there
-    for j in 0..n {
-        put_row(rows, edges + j, row_in(chosen, j));
-    }
-}
-
-// Copies the rows that are no edges'.
-pub fn copy_behind(slice: &[u16], rows: &mut [u16])
-    requires full { Full slice.now }
-    requires full_2 { Full rows.old }
-    ensures { Behind slice.now rows.new }
-{
-    // those below i are there
-    for i in PATHS..1340 {
-        put_row(rows, i, row_in(slice, i));
-    }
-}
-
 // Makes the rows of the case with the chosen edges, and answers its counts.
 pub fn rows_with(
     counts: Counts,
@@ -114,8 +88,10 @@ pub fn rows_with(
     let mut chosen = [0u16; 48];
     let n = choose(list, selection, &mut chosen);
     lay_edges(counts.edges, slice, n, &chosen, rows);
-    lay_chosen(counts.edges, slice, n, &chosen, rows);
-    let mut with = counts;
-    with.edges = counts.edges + n;
-    with
+    let behind = 4 * counts.edges;
+    rows[behind..behind + 4 * n].copy_from_slice(&chosen[..4 * n]);
+    Counts {
+        edges: counts.edges + n,
+        ..counts
+    }
 }

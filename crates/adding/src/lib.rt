@@ -3,6 +3,7 @@
 // with the chosen edges, and `deciding` the target's verdict there.
 #![tactic(auto)]
 
+pub mod asked;
 pub mod candidates;
 pub mod choosing;
 pub mod deciding;

@@ -1,42 +1,20 @@
 // The first key whose selection makes a target sure: by how many edges, then by the selection's number.
-ghost use Rattle.std.specs.Prelude.{◌≡◌, cond, ◌+◌, ◌≤◌, length};
+ghost use Rattle.std.specs.Prelude.{◌≡◌, ◌+◌, ◌≤◌, length};
 ghost use Rattle.cases.specs.Rows.{case_in, CaseIn};
-ghost use Rattle.fixpoint.specs.Lists.{up_to, first_from};
-ghost use Rattle.fixpoint.specs.Lists.{count as counting};
 ghost use Rattle.lookups.specs.Edges.{set_words};
-ghost use Rattle.semantics.specs.Adding.{chooses, key_count};
-ghost use Rattle.adding.specs.Deciding.{Askable, KeyAsked, sure_over};
-ghost use Rattle.adding.specs.Searching.{Searchable, SelectionsOf, BaseLaid};
+ghost use Rattle.semantics.specs.Adding.{key_count};
+ghost use Rattle.adding.specs.Deciding.{Tabled, KeyAsked, case_asked, sure_over};
+ghost use Rattle.adding.specs.Searching.{Searchable, SelectionsOf, BaseLaid, first_below};
 
-use crate::choosing::copy_behind;
-use crate::deciding::{Asked, verdict};
+use crate::asked::Asked;
+use crate::deciding::verdict;
 use crate::touching::touched_paths;
 use bitset::words::without;
 use cases::command::Target;
 use cases::counts::Counts;
 use fillers::table::is_small;
 use kernel::preparing::{lay_links, lay_sets};
-
-// 1 if candidate i is chosen, else 0.
-fn chosen_bit(selection: usize, i: usize) -> usize
-    requires { i ≤ 12 }
-    ensures { result ≡ cond (chooses selection i) 1 0 }
-{
-    (selection >> i) % 2
-}
-
-// How many of the candidates are chosen.
-fn chosen_count(candidates: usize, selection: usize) -> usize
-    requires { candidates ≤ 12 }
-    ensures { result ≡ counting (up_to candidates) (chooses selection) }
-{
-    let mut n = 0;
-    // n of those below i
-    for i in 0..candidates {
-        n += chosen_bit(selection, i);
-    }
-    n
-}
+use semantics::value::Value;
 
 // The selections of so many candidates.
 pub fn selection_count(candidates: usize) -> usize
@@ -47,47 +25,32 @@ pub fn selection_count(candidates: usize) -> usize
 }
 
 // Whether the key's selection has as many edges as the key says and makes the target sure.
-fn is_sure(
-    asked: Asked,
-    slice: &[u16],
-    list: &[u8],
-    key: usize,
-    rows: &mut [u16],
-    tables: &mut [u64],
-) -> bool
-    requires { Askable asked slice.now list.now rows.old tables.old }
-    ensures { KeyAsked asked slice.now list.now key result rows.new tables.new }
+fn is_sure(asked: &Asked, key: usize, rows: &mut [u16], tables: &mut [u64]) -> bool
+    requires { Tabled asked.now rows.old tables.old }
+    ensures { KeyAsked asked.now key result rows.new tables.new }
 {
-    let candidates = list.len() / 5;
-    let selections = selection_count(candidates);
+    let selections = selection_count(asked.list.len() / 5);
     let selection = key % selections;
-    if chosen_count(candidates, selection) != key / selections {
+    if selection.count_ones() as usize != key / selections {
         return false;
     }
-    let value = verdict(asked, slice, list, selection, rows, tables);
-    value.0 == 2
+    verdict(asked, selection, rows, tables) == Value::VALID
 }
 
-// The first such key, or the number of keys.
-fn first_key(
-    asked: Asked,
-    slice: &[u16],
-    list: &[u8],
-    rows: &mut [u16],
-    tables: &mut [u64],
-) -> usize
-    requires { Askable asked slice.now list.now rows.old tables.old }
-    ensures { result ≡ first_from (key_count list.now) 0 (sure_over (case_in asked.counts slice.now) asked.pair list.now) }
+// The first such key.
+fn first_key(asked: &Asked, rows: &mut [u16], tables: &mut [u64]) -> Option<usize>
+    requires { Tabled asked.now rows.old tables.old }
+    ensures { result ≡ first_below (key_count asked.now.list.now) (sure_over (case_asked asked.now) asked.now.pair asked.now.list.now) }
 {
-    let candidates = list.len() / 5;
+    let candidates = asked.list.len() / 5;
     let keys = (candidates + 1) * selection_count(candidates);
     // no key below this one is it
     for key in 0..keys {
-        if is_sure(asked, slice, list, key, rows, tables) {
-            return key;
+        if is_sure(asked, key, rows, tables) {
+            return Some(key);
         }
     }
-    keys
+    None
 }
 
 // Puts into the tables what no candidate touches, and answers the paths whose sets of nodes stay as they are.
@@ -101,28 +64,40 @@ fn lay_base(counts: Counts, slice: &[u16], list: &[u8], tables: &mut [u64]) -> u
     without(made, touched_paths(counts, slice, list))
 }
 
-// The same, once what no candidate touches is in the tables.
-fn search_in(counts: Counts, pair: Target, slice: &[u16], list: &[u8], tables: &mut [u64]) -> usize
+// The first key, by a table of so many words.
+fn search_with<const N: usize>(
+    counts: Counts,
+    pair: Target,
+    slice: &[u16],
+    list: &[u8],
+) -> Option<usize>
     requires searchable { Searchable counts pair slice.now list.now }
-    requires counts_in_bounds { 769 + set_words counts ≤ length tables.old }
-    ensures { result ≡ first_from (key_count list.now) 0 (sure_over (case_in counts slice.now) pair list.now) }
+    requires room { 769 + set_words counts ≤ N }
+    requires words_bound { N ≤ 66313 }
+    ensures { result ≡ first_below (key_count list.now) (sure_over (case_in counts slice.now) pair list.now) }
 {
     let mut rows = [0u16; 5360];
-    copy_behind(slice, &mut rows);
-    let held = lay_base(counts, slice, list, tables);
-    let asked = Asked { counts, pair, held };
-    first_key(asked, slice, list, &mut rows, tables)
+    let mut tables = [0u64; N];
+    rows.copy_from_slice(&slice[..5360]);
+    let held = lay_base(counts, slice, list, &mut tables);
+    let asked = Asked {
+        counts,
+        slice,
+        pair,
+        list,
+        held,
+    };
+    first_key(&asked, &mut rows, &mut tables)
 }
 
-// The same, in the small table or the wide one.
-pub fn search(counts: Counts, pair: Target, slice: &[u16], list: &[u8]) -> usize
+// The same, by the small table or the wide one.
+pub fn search(counts: Counts, pair: Target, slice: &[u16], list: &[u8]) -> Option<usize>
     requires { Searchable counts pair slice.now list.now }
-    ensures { result ≡ first_from (key_count list.now) 0 (sure_over (case_in counts slice.now) pair list.now) }
+    ensures { result ≡ first_below (key_count list.now) (sure_over (case_in counts slice.now) pair list.now) }
 {
     if is_small(counts) {
-        let mut small = [0u64; 4873];
-        return search_in(counts, pair, slice, list, &mut small);
+        search_with::<4873>(counts, pair, slice, list)
+    } else {
+        search_with::<66313>(counts, pair, slice, list)
     }
-    let mut wide = [0u64; 66313];
-    search_in(counts, pair, slice, list, &mut wide)
 }

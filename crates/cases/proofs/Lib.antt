@@ -7,4 +7,5 @@ pub mod InRows
 pub mod PutRows
 pub mod Expansion
 pub mod Opening
+pub mod Faulted
 pub mod Operands

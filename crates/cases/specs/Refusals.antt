@@ -1,6 +1,6 @@
 -- Refusals: the documents' numbers, and what an answer that may be a refusal says by them. Document 01, "Refusals, operation by operation";
 -- document 02, points 2, 4, 7, 8 and 10. Assumes nothing.
-use Rattle.std.specs.Prelude.{ℕ, Result, Ok, Err}
+use Rattle.std.specs.Prelude.{ℕ, ◌≡◌, Result, Ok, Err}
 use Rattle.cases.specs.declared.refusals.Fault.{Fault}
 use Rattle.cases.specs.declared.refusals.Fault.TheVariants.{UnknownCommand, OutOfOrder, Incomplete, BeyondLimit, UnknownNode, UnknownPath, LeastZero}
 use Rattle.cases.specs.declared.refusals.Fault.TheVariants.{BehindEnd, UnknownShape, ShortValues, ShortLevels, ShortVerdicts, NoValue, Unsupported}
@@ -60,3 +60,13 @@ refusal_in (Err r) = refusal_says r
 abbrev pub fault_in : {A : Type 0} → Result A Fault → ℕ
 fault_in (Ok x) = 0
 fault_in (Err fault) = fault_number fault
+
+-- the answer of a call that came to this, where a refusal gives its answer
+abbrev pub AnsweredBy : {A : Type 0} → (Refused → A → Type 0) → Result A Refused → A → Type 0
+AnsweredBy gives (Ok x) answer = answer ≡ x
+AnsweredBy gives (Err r) answer = gives r answer
+
+-- the same where the answer of a refusal is a function of it
+abbrev pub answer_in : {A : Type 0} → (Refused → A) → Result A Refused → A
+answer_in refused (Ok x) = x
+answer_in refused (Err r) = refused r

@@ -42,9 +42,9 @@ pub struct Reading {
 }
 
 impl From<Counts> for Reading {
-    fn from(counts: Counts) -> Reading
-        ensures { result ≡ reading_of counts }
-    {
+    ghost from_gives = { λ counts reading. reading ≡ reading_of counts };
+
+    fn from(counts: Counts) -> Reading {
         Reading {
             number: 0,
             place: 0,
@@ -58,12 +58,12 @@ impl From<Counts> for Reading {
 }
 
 impl From<Refused> for Reading {
-    fn from(refusal: Refused) -> Reading
-        ensures { result ≡ reading_refused refusal }
-    {
+    ghost from_gives = { λ refused reading. reading ≡ reading_refused refused };
+
+    fn from(refused: Refused) -> Reading {
         Reading {
-            number: refusal.fault.number(),
-            place: refusal.place,
+            number: refused.fault.number(),
+            place: refused.place,
             nodes: 0,
             edges: 0,
             paths: 0,

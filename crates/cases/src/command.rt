@@ -59,52 +59,60 @@ pub enum Command {
 #[derive(Clone, Copy)]
 pub struct Row(pub u16, pub u16, pub u16, pub u16);
 
-pub fn edge_of(row: Row) -> Edge
-    ensures { result ≡ edge_of row }
-{
-    Edge {
-        code: row.0 as usize,
-        property: Property(row.1 as usize),
-        subject: Node(row.2 as usize),
-        object: Node(row.3 as usize),
+impl From<Row> for Edge {
+    fn from(row: Row) -> Edge
+        ensures { result ≡ edge_of row }
+    {
+        Edge {
+            code: row.0 as usize,
+            property: Property(row.1 as usize),
+            subject: Node(row.2 as usize),
+            object: Node(row.3 as usize),
+        }
     }
 }
 
-pub fn path_rule_of(row: Row) -> PathRule
-    ensures { result ≡ path_rule_of row }
-{
-    let code = row.0;
-    match code {
-        0x10 => PathRule::Forward(Property(row.1 as usize)),
-        0x11 => PathRule::Backward(Property(row.1 as usize)),
-        0x12 => PathRule::Union(Path(row.1 as usize), Path(row.2 as usize)),
-        0x13 => PathRule::Sequence(Path(row.1 as usize), Path(row.2 as usize)),
-        _ => PathRule::Star(Path(row.1 as usize)),
+impl From<Row> for PathRule {
+    fn from(row: Row) -> PathRule
+        ensures { result ≡ path_rule_of row }
+    {
+        let code = row.0;
+        match code {
+            0x10 => PathRule::Forward(Property(row.1 as usize)),
+            0x11 => PathRule::Backward(Property(row.1 as usize)),
+            0x12 => PathRule::Union(Path(row.1 as usize), Path(row.2 as usize)),
+            0x13 => PathRule::Sequence(Path(row.1 as usize), Path(row.2 as usize)),
+            _ => PathRule::Star(Path(row.1 as usize)),
+        }
     }
 }
 
-pub fn shape_rule_of(row: Row) -> ShapeRule
-    ensures { result ≡ shape_rule_of row }
-{
-    let code = row.0;
-    match code {
-        0x20 => ShapeRule::Top,
-        0x21 => ShapeRule::Node(Node(row.1 as usize)),
-        0x22 => ShapeRule::And(Shape(row.1 as usize), Shape(row.2 as usize)),
-        0x23 => ShapeRule::Or(Shape(row.1 as usize), Shape(row.2 as usize)),
-        0x24 => ShapeRule::Not(Shape(row.1 as usize)),
-        0x25 => ShapeRule::Same(Path(row.1 as usize), Path(row.2 as usize)),
-        0x26 => ShapeRule::All(Path(row.1 as usize), Shape(row.2 as usize)),
-        _ => ShapeRule::AtLeast(row.1 as usize, Path(row.2 as usize), Shape(row.3 as usize)),
+impl From<Row> for ShapeRule {
+    fn from(row: Row) -> ShapeRule
+        ensures { result ≡ shape_rule_of row }
+    {
+        let code = row.0;
+        match code {
+            0x20 => ShapeRule::Top,
+            0x21 => ShapeRule::Node(Node(row.1 as usize)),
+            0x22 => ShapeRule::And(Shape(row.1 as usize), Shape(row.2 as usize)),
+            0x23 => ShapeRule::Or(Shape(row.1 as usize), Shape(row.2 as usize)),
+            0x24 => ShapeRule::Not(Shape(row.1 as usize)),
+            0x25 => ShapeRule::Same(Path(row.1 as usize), Path(row.2 as usize)),
+            0x26 => ShapeRule::All(Path(row.1 as usize), Shape(row.2 as usize)),
+            _ => ShapeRule::AtLeast(row.1 as usize, Path(row.2 as usize), Shape(row.3 as usize)),
+        }
     }
 }
 
-pub fn target_of(row: Row) -> Target
-    ensures { result ≡ target_of row }
-{
-    Target {
-        shape: Shape(row.1 as usize),
-        node: Node(row.2 as usize),
+impl From<Row> for Target {
+    fn from(row: Row) -> Target
+        ensures { result ≡ target_of row }
+    {
+        Target {
+            shape: Shape(row.1 as usize),
+            node: Node(row.2 as usize),
+        }
     }
 }
 
@@ -114,10 +122,10 @@ pub fn command_of(group: usize, row: Row) -> Command
 {
     match group {
         1 => Command::Nodes(row.1 as usize),
-        2 => Command::Edge(edge_of(row)),
-        3 => Command::Path(path_rule_of(row)),
-        4 => Command::Shape(shape_rule_of(row)),
-        5 => Command::Target(target_of(row)),
+        2 => Command::Edge(Edge::from(row)),
+        3 => Command::Path(PathRule::from(row)),
+        4 => Command::Shape(ShapeRule::from(row)),
+        5 => Command::Target(Target::from(row)),
         _ => Command::End,
     }
 }

@@ -1,6 +1,6 @@
 // Refusals: what is at fault, by the numbers of the scope and the requests, and where.
 ghost use Rattle.std.specs.Prelude.{◌≡◌};
-ghost use Rattle.cases.specs.Refusals.{fault_number, refused_at};
+ghost use Rattle.cases.specs.Refusals.{fault_number, refused_at, AnsweredBy};
 
 // What is at fault, in the order of the numbers. 10, 11, 12 and 16 are of lent tables that are too short; 24 is of a target or of a candidate's node.
 #[derive(Clone, Copy, PartialEq, Eq)]
@@ -52,4 +52,14 @@ impl Fault {
 pub struct Refused {
     pub fault: Fault,
     pub place: usize,
+}
+
+// What a call answers: what it came to, or the answer that says the refusal.
+pub fn answered<T: From<Refused>>(outcome: Result<T, Refused>) -> T
+    ensures { AnsweredBy T.from_gives outcome result }
+{
+    match outcome {
+        Ok(answer) => answer,
+        Err(refused) => T::from(refused),
+    }
 }

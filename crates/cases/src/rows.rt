@@ -3,7 +3,7 @@
 ghost use Rattle.std.specs.Prelude.{◌≡◌, ◌+◌, ◌*◌, ◌<◌, ◌≤◌, length};
 ghost use Rattle.cases.specs.Rows.{row_in, put_row, edge_in, shape_in, target_in, Full};
 
-use crate::command::{Edge, Row, ShapeRule, Target, edge_of, shape_rule_of, target_of};
+use crate::command::{Edge, Row, ShapeRule, Target};
 use crate::numbers::Shape;
 
 // The first row of paths, shapes and targets; edges start at row 0, and there is room for 12 beyond the limit.
@@ -43,7 +43,7 @@ pub fn edge_in(rows: &[u16], i: usize) -> Edge
     requires i_bound { i < 1036 }
     ensures { result ≡ edge_in rows.now i }
 {
-    edge_of(row_in(rows, i))
+    Edge::from(row_in(rows, i))
 }
 
 pub fn shape_in(rows: &[u16], s: Shape) -> ShapeRule
@@ -51,7 +51,7 @@ pub fn shape_in(rows: &[u16], s: Shape) -> ShapeRule
     requires s_bound { s.0 < 32 }
     ensures { result ≡ shape_in rows.now s.0 }
 {
-    shape_rule_of(row_in(rows, SHAPES + s.0))
+    ShapeRule::from(row_in(rows, SHAPES + s.0))
 }
 
 pub fn target_in(rows: &[u16], i: usize) -> Target
@@ -59,5 +59,5 @@ pub fn target_in(rows: &[u16], i: usize) -> Target
     requires i_bound { i < 256 }
     ensures { result ≡ target_in rows.now i }
 {
-    target_of(row_in(rows, TARGETS + i))
+    Target::from(row_in(rows, TARGETS + i))
 }

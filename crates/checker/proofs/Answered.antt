@@ -1,12 +1,16 @@
 -- The first fault under either code, and the answer that goes with it. Assumes nothing.
-use Prim.Native.Nat.{ℕ, ◌*◌, ◌≤◌}
-use mathlib.Core.Path.{◌≡◌, ◌∙◌}
+use Prim.Native.Nat.{ℕ, ◌*◌}
+use mathlib.Core.Path.{◌≡◌, ap, ◌∙◌}
+use Rattle.std.specs.Prelude.{Result, Err}
+use Rattle.std.specs.Result.{IsErrAnd}
+use Rattle.std.proofs.lemmas.Result.{err_from_is_err_and}
 use mathlib.Core.List.{List}
-use lib.ListN.{length, take}
+use lib.ListN.{take}
 use borrow.Author.Tests.{ne_eqb}
 use Rattle.cases.specs.Case.{Case}
 use Rattle.cases.specs.Rows.{case_in}
-use Rattle.cases.specs.Refusals.{Refusal}
+use Rattle.cases.specs.Refusals.{Refusal, no_refusal, refusal_says}
+use Rattle.cases.specs.declared.refusals.Refused.{Refused}
 use Rattle.cases.specs.declared.counts.Counts.{Counts}
 use Rattle.cases.proofs.InRows.{nodes_in, shapes_in}
 use Rattle.semantics.specs.declared.answers.Checked.{Checked}
@@ -17,7 +21,8 @@ use Rattle.semantics.specs.Solving.{target_values}
 use Rattle.semantics.specs.Values.{pair_count}
 use Rattle.checker.specs.declared.checking.Code.{Code}
 use Rattle.checker.specs.declared.checking.Code.TheVariants.{Older, Newer}
-use Rattle.checker.specs.Codes.{levels_needed, proposal_fault}
+use Rattle.checker.specs.Codes.{proposal_fault, checked_in}
+use Rattle.cases.proofs.Faulted.{refused_some}
 
 -- ---- By code
 
@@ -30,10 +35,6 @@ module _ {code : Code} (c : Case) (values levels : List ℕ) {r : Refusal} where
   unfolding proposal_fault
   fault_newer e f = f ∙ rw e
 
-pub levels_of_newer : {code : Code} (counts : Counts) (levels : List ℕ) → code ≡ Newer → levels_needed code counts ≤ length levels
-    → 2 * (counts.shapes * counts.nodes) ≤ length levels
-levels_of_newer counts levels e l = rw e at l
-
 -- ---- The answer
 
 -- a refusal's
@@ -41,15 +42,14 @@ pub refused_is : (r : Refusal) (c : Case) (values : List ℕ) → (r.number ≡ 
 unfolding checked counted
 refused_is r c values some = rw (ne_eqb r.number 0 some)
 
-module _ (counts : Counts) (rows values : List ℕ) {fault : Refusal} where
-  pub answer_refused : {a : Checked} → (fault.number ≡ 0 → ⊥) → a ≡ refused_checked fault → a ≡ checked fault (case_in counts rows) values
-  answer_refused some f = f ∙ refused_is fault (case_in counts rows) values some
+module _ (counts : Counts) (rows values : List ℕ) {found : Refusal} where
+  pub answer_refused : (e : Refused) (r : Result Checked Refused) → IsErrAnd r (λ x. x ≡ e) → refusal_says e ≡ found → checked_in r ≡ checked found (case_in counts rows) values
+  answer_refused e r h f =
+      let p = err_from_is_err_and r h in
+      rw f at (ap checked_in (p.1 ∙ ap Err p.2) ∙ refused_is (refusal_says e) (case_in counts rows) values (refused_some e))
 
   -- with no fault the counts are those of the proposal
-  pub answer_accepted : {u v : ℕ} → fault.number ≡ 0 → u ≡ tally 1 (take (counts.shapes * counts.nodes) values) → v ≡ tally 2 (target_values (case_in counts rows) values)
-      → record { number = fault.number; place = fault.place; undetermined = u; valid = v } ≡ checked fault (case_in counts rows) values
+  pub answer_accepted : {u v : ℕ} → no_refusal ≡ found → u ≡ tally 1 (take (counts.shapes * counts.nodes) values) → v ≡ tally 2 (target_values (case_in counts rows) values)
+      → record { number = 0; place = 0; undetermined = u; valid = v } ≡ checked found (case_in counts rows) values
   unfolding checked counted pair_count
-  answer_accepted z f g = rw (f, g, z, shapes_in counts rows, nodes_in counts rows)
-
-  pub answered : {found : Refusal} {a : Checked} → fault ≡ found → a ≡ checked fault (case_in counts rows) values → a ≡ checked found (case_in counts rows) values
-  answered e f = rw e at f
+  answer_accepted z f g = rw (← z, f, g, shapes_in counts rows, nodes_in counts rows)

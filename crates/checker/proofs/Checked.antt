@@ -76,13 +76,18 @@ module _ {counts : Counts} {rows sets : List ℕ} (t : Tables counts rows sets) 
   supported_few e i = (supported_ends e i).most
 
   -- what the two passes find
-  pub pairs_checked : {valid possible levels : List ℕ} {m : ℕ} {u x q : Refusal} → Proposed counts values valid possible → u ≡ support_fault (case_in counts rows) values
-      → m ≡ cond (eqb u.number 0) (counts.shapes * counts.nodes) u.place → LevelsChecked counts rows valid possible levels m x → q ≡ or_else x u
-      → q ≡ pair_fault (case_in counts rows) values (levels_in (pair_count (case_in counts rows)) levels)
-  unfolding pair_fault
-  pairs_checked {u = u} p f i g o =
-      let ends = supported_ends f i in
-      o
-      ∙ ap (λ y. or_else y u) (g.right values (record { proposed = p; each = λ k h. (unless_none (supported_at (case_in counts rows) values k) 14 k (omega arith)).0 (ends.well.each k h) }))
-      ∙ two_passes (unsupported counts rows values) _ ends
-      ∙ rw (← pair_count_is t)
+  module _ {valid possible levels : List ℕ} {m : ℕ} {u x : Refusal} (p : Proposed counts values valid possible) (f : u ≡ support_fault (case_in counts rows) values)
+      (i : m ≡ cond (eqb u.number 0) (counts.shapes * counts.nodes) u.place) (g : LevelsChecked counts rows valid possible levels m x) where
+    both_checked : or_else x u ≡ pair_fault (case_in counts rows) values (levels_in (pair_count (case_in counts rows)) levels)
+    unfolding pair_fault
+    both_checked =
+        let ends = supported_ends f i in
+        ap (λ y. or_else y u) (g.right values (record { proposed = p; each = λ k h. (unless_none (supported_at (case_in counts rows) values k) 14 k (omega arith)).0 (ends.well.each k h) }))
+        ∙ two_passes (unsupported counts rows values) _ ends
+        ∙ rw (← pair_count_is t)
+
+    pub pairs_refused : (x.number ≡ 0 → ⊥) → x ≡ pair_fault (case_in counts rows) values (levels_in (pair_count (case_in counts rows)) levels)
+    pairs_refused n = sym (or_else_this x u n) ∙ both_checked
+
+    pub pairs_checked : x.number ≡ 0 → u ≡ pair_fault (case_in counts rows) values (levels_in (pair_count (case_in counts rows)) levels)
+    pairs_checked z = sym (or_else_next x u z) ∙ both_checked

@@ -1,8 +1,11 @@
--- The first fault of a proposal whose tables are long enough, under either code. Assumes nothing.
-use Rattle.std.specs.Prelude.{ℕ, ◌*◌, List}
+-- The first fault of a proposal whose tables are long enough, under either code, and what its check answers. Assumes nothing.
+use Rattle.std.specs.Prelude.{ℕ, ◌*◌, List, Result}
 use Rattle.cases.specs.Case.{Case}
-use Rattle.cases.specs.Refusals.{Refusal}
+use Rattle.cases.specs.Refusals.{Refusal, refusal_says, answer_in}
 use Rattle.cases.specs.declared.counts.Counts.{Counts}
+use Rattle.cases.specs.declared.refusals.Refused.{Refused}
+use Rattle.semantics.specs.Answered.{refused_checked}
+use Rattle.semantics.specs.declared.answers.Checked.{Checked}
 use Rattle.semantics.specs.OldCode.{support_fault}
 use Rattle.semantics.specs.Operations.{or_else, levels_in, value_fault, pair_fault}
 use Rattle.semantics.specs.Values.{pair_count}
@@ -18,3 +21,7 @@ levels_needed Newer counts = 2 * (counts.shapes * counts.nodes)
 unfoldable pub proposal_fault : Code → Case → List ℕ → List ℕ → Refusal
 proposal_fault Older c values levels = or_else (value_fault c values) (support_fault c values)
 proposal_fault Newer c values levels = or_else (value_fault c values) (pair_fault c values (levels_in (pair_count c) levels))
+
+-- the answer of a check that came to this
+abbrev pub checked_in : Result Checked Refused → Checked
+checked_in = answer_in (λ r. refused_checked (refusal_says r))

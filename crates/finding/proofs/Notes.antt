@@ -10,31 +10,17 @@ use Rattle.cases.specs.declared.command.ShapeRule.{ShapeRule}
 use Rattle.cases.specs.declared.command.Target.{Target}
 use Rattle.cases.specs.declared.numbers.Shape.{Shape}
 use Rattle.cases.specs.declared.few.Few.{Few}
-use Rattle.cases.specs.declared.few.Few.TheVariants.{No, One, Two}
+use Rattle.cases.specs.declared.few.Few.TheVariants.{No, Two}
 use Rattle.cases.specs.Case.{references}
 use Rattle.cases.specs.Reading.{shapes_named}
 use Rattle.cases.specs.References.{listed}
 use Rattle.parts.specs.Tables.{NoteRoom, Noted}
 use Rattle.parts.proofs.Notes.{noted_none, noted_then}
 
--- By the references of a rule, which are so many
-module _ {r : Few Shape} {n : ℕ} {t : List ℕ} where
-  pub room_one : {s : Shape} → r ≡ One s → NoteRoom (listed r) n t → 2 * n + 2 ≤ length t
-  room_one e h = let f = rw e at h.fits in omega arith
-
-  pub room_two : {s q : Shape} → r ≡ Two s q → NoteRoom (listed r) n t → 2 * n + 2 ≤ length t
-  room_two e h = let f = rw e at h.fits in omega arith
-
-  pub note_room_second : {s q : Shape} {place n₁ a : ℕ} {t₁ : List ℕ} → r ≡ Two s q → NoteRoom (listed r) n t → Noted (a ∷ []) place n t n₁ t₁ → 2 * n₁ + 2 ≤ length t₁
-  note_room_second e h u = let f = rw e at h.fits in omega (arith, u.counted, u.long)
-
-  module _ {place n' : ℕ} {t' : List ℕ} where
-    pub noted_of_one : {s : Shape} → r ≡ One s → Noted (s.0 ∷ []) place n t n' t' → Noted (listed r) place n t n' t'
-    noted_of_one e u = rw e u
-
-    pub noted_of_two : {s q : Shape} {n₁ : ℕ} {t₁ : List ℕ} → r ≡ Two s q → Noted (s.0 ∷ []) place n t n₁ t₁ → Noted (q.0 ∷ []) place n₁ t₁ n' t'
-        → Noted (listed r) place n t n' t'
-    noted_of_two e u v = rw e (noted_then u v)
+-- By the references of a rule
+pub noted_of_two : {r : Few Shape} {n : ℕ} {t : List ℕ} {place n' : ℕ} {t' : List ℕ} {s q : Shape} {n₁ : ℕ} {t₁ : List ℕ} → r ≡ Two s q
+    → Noted (s.0 ∷ []) place n t n₁ t₁ → Noted (q.0 ∷ []) place n₁ t₁ n' t' → Noted (listed r) place n t n' t'
+noted_of_two e u v = rw e (noted_then u v)
 
 pub noted_of_none : {r : Few Shape} {place n : ℕ} {t : List ℕ} → r ≡ No → Noted (listed r) place n t n t
 noted_of_none e = rw e noted_none

@@ -1,6 +1,5 @@
 -- What finding a command needs and leaves. No part of document 01. Assumes nothing.
-use Rattle.std.specs.Prelude.{ℕ, ◌+◌, ◌*◌, ◌≤◌, ◌<◌, ◌≡◌, Bool, true, false, cond, not, ◌&&◌, List, [], ◌++◌, map, length, leb}
-use Rattle.cases.specs.Reading.{Step, Is, Refused}
+use Rattle.std.specs.Prelude.{ℕ, ◌+◌, ◌*◌, ◌≤◌, ◌<◌, ◌≡◌, Bool, true, false, cond, not, ◌&&◌, List, [], ◌++◌, map, length, Result, Ok, Err, IfOk, leb}
 use Rattle.cases.specs.declared.answers.Taken.{Taken}
 use Rattle.cases.specs.declared.command.Command.{Command}
 use Rattle.cases.specs.declared.command.Command.TheVariants.{Nodes, End}
@@ -8,6 +7,8 @@ use Rattle.cases.specs.declared.command.Command.TheVariants.{Edge as EdgeCommand
 use Rattle.cases.specs.declared.command.Edge.{Edge}
 use Rattle.cases.specs.declared.command.Row.{Row}
 use Rattle.cases.specs.declared.command.ShapeRule.{ShapeRule}
+use Rattle.cases.specs.declared.refusals.Fault.{Fault as Faulted}
+use Rattle.cases.specs.declared.refusals.Fault.TheVariants.{TooManyShapes, NeverLaid}
 use Rattle.fixpoint.specs.Lists.{up_to}
 use Rattle.cases.specs.Counts.{shape_limit}
 use Rattle.cases.specs.Faults.{edge_there}
@@ -15,8 +16,10 @@ use Rattle.cases.specs.Format.{edge_of, path_rule_of, shape_rule_of, target_of}
 use Rattle.cases.specs.Rows.{Full, edge_in}
 use Rattle.cases.specs.Parts.{names, rule, inside, fresh_count}
 use Rattle.cases.specs.Reading.{step_at, Progress, counts_so_far, shapes_named, named_at, Entry, Shape, Other, Found, Fault, Good, plain_found, nested_found, roomy_found, laid_found}
+use Rattle.cases.specs.Refusals.{fault_number}
+use Rattle.parts.specs.declared.readers.Cursor.{Cursor}
 use Rattle.parts.specs.declared.readers.Opened.{Opened}
-use Rattle.parts.specs.declared.readers.Opened.TheVariants.{Refused as PartRefused, Name, Rule}
+use Rattle.parts.specs.declared.readers.Opened.TheVariants.{Name, Rule}
 use Rattle.parts.specs.Tables.{rules_in, named_in}
 use Rattle.finding.specs.declared.commands.Finding.{Finding}
 use Rattle.finding.specs.declared.commands.Reached.{Reached}
@@ -27,16 +30,17 @@ abbrev pub nothing_reached : ℕ → Reached
 nothing_reached profile =
     record { profile = profile; last = 0; counts = record { nodes = 0; edges = 0; paths = 0; shapes = 0; targets = 0 }; fresh = 0; noted = 0 }
 
-abbrev pub refused_finding : ℕ → Reached → Finding
-refused_finding number reached = record { step = Refused number; fresh = reached.fresh; noted = reached.noted }
+abbrev pub shape_finding : Row → Cursor → Finding
+shape_finding row after =
+    record {
+      accepted = record { command = ShapeCommand (shape_rule_of row); row = row; taken = record { group = 4; width = after.at } };
+      fresh = after.fresh;
+      noted = after.noted;
+    }
 
-abbrev pub shape_step : Row → ℕ → Step
-shape_step row width = Is (ShapeCommand (shape_rule_of row)) row (record { group = 4; width = width })
-
-abbrev pub part_finding : Opened → Reached → Finding
-part_finding (PartRefused number) reached = refused_finding number reached
-part_finding (Name s after) reached = record { step = shape_step (0x23, s, s, 0) after.at; fresh = after.fresh; noted = after.noted }
-part_finding (Rule row after) reached = record { step = shape_step row after.at; fresh = after.fresh; noted = after.noted }
+abbrev pub part_finding : Opened → Finding
+part_finding (Name s after) = shape_finding (0x23, s, s, 0) after
+part_finding (Rule row after) = shape_finding row after
 
 abbrev pub is_shape : Command → Bool
 is_shape (Nodes n) = false
@@ -46,20 +50,12 @@ is_shape (ShapeCommand r) = true
 is_shape (TargetCommand t) = false
 is_shape End = false
 
-abbrev pub is_beyond : Step → ℕ → ℕ → Bool
-is_beyond (Refused number) profile shapes = false
-is_beyond (Is command row taken) profile shapes = is_shape command && leb (shape_limit profile) shapes
-
-unfoldable pub with_room : Finding → Reached → Finding
+unfoldable pub with_room : Finding → Reached → Result Finding Faulted
 with_room finding reached =
-    cond (is_beyond finding.step reached.profile (reached.counts.shapes + finding.fresh)) (refused_finding 19 reached) finding
+    cond (is_shape finding.accepted.command && leb (shape_limit reached.profile) (reached.counts.shapes + finding.fresh)) (Err TooManyShapes) (Ok finding)
 
-abbrev pub is_unlaid : Step → List Edge → Bool
-is_unlaid (Refused number) edges = false
-is_unlaid (Is command row taken) edges = not (edge_there edges command)
-
-unfoldable pub with_edge : Finding → Reached → List Edge → Finding
-with_edge finding reached edges = cond (is_unlaid finding.step edges) (refused_finding 20 reached) finding
+unfoldable pub with_edge : Finding → List Edge → Result Finding Faulted
+with_edge finding edges = cond (not (edge_there edges finding.accepted.command)) (Err NeverLaid) (Ok finding)
 
 -- ---- Room
 
@@ -125,27 +121,28 @@ pub record Adds (found : Found) (at : ℕ) (reached : Reached) (fresh named : Li
   pub rules : rules_in fresh' n ≡ rules_in fresh reached.fresh ++ entry_inside (256 + reached.fresh) entry
   pub notes : named_in named' m ≡ named_in named reached.noted ++ named_at at (entry_names entry)
 
-unfoldable pub StepIs : Found → ℕ → Reached → List ℕ → List ℕ → Step → ℕ → ℕ → List ℕ → List ℕ → Type 0
-StepIs found at reached fresh named (Refused number) n m fresh' named' = found ≡ Fault number
-StepIs found at reached fresh named (Is command row taken) n m fresh' named' = Adds found at reached fresh named command row taken n m fresh' named'
+unfoldable pub AnswerIs : Found → ℕ → Reached → List ℕ → List ℕ → Result Finding Faulted → List ℕ → List ℕ → Type 0
+AnswerIs found at reached fresh named (Err fault) fresh' named' = found ≡ Fault (fault_number fault)
+AnswerIs found at reached fresh named (Ok x) fresh' named' =
+    Adds found at reached fresh named x.accepted.command x.accepted.row x.accepted.taken x.fresh x.noted fresh' named'
 
 -- the same of every progress for which the counts stand
-pub record FindingIs (found : Progress → Found) (at : ℕ) (reached : Reached) (fresh named : List ℕ) (r : Finding) (fresh' named' : List ℕ) : Type 0 where
-  pub few : r.fresh ≤ 541
+pub record FindingIs (found : Progress → Found) (at : ℕ) (reached : Reached) (fresh named : List ℕ) (r : Result Finding Faulted) (fresh' named' : List ℕ) : Type 0 where
+  pub few : IfOk r (λ x. x.fresh ≤ 541)
   pub fresh_long : length fresh' ≡ length fresh
   pub named_long : length named' ≡ length named
-  pub is : (p : Progress) → Stands p reached → StepIs (found p) at reached fresh named r.step r.fresh r.noted fresh' named'
+  pub is : (p : Progress) → Stands p reached → AnswerIs (found p) at reached fresh named r fresh' named'
 
 -- of a command but 28, which leaves the fresh shapes, whatever they are
-pub record PlainAs (part : List ℕ) (at : ℕ) (reached : Reached) (named : List ℕ) (r : Finding) (named' : List ℕ) : Type 0 where
+pub record PlainAs (part : List ℕ) (at : ℕ) (reached : Reached) (named : List ℕ) (r : Result Finding Faulted) (named' : List ℕ) : Type 0 where
   pub found : reached.fresh ≤ 32 → (fresh : List ℕ) → FindingIs (λ p. plain_found (step_at p.profile p.last (counts_so_far p) part)) at reached fresh named r fresh named'
 
-pub record NestedAs (part : List ℕ) (at : ℕ) (reached : Reached) (fresh named : List ℕ) (r : Finding) (fresh' named' : List ℕ) : Type 0 where
+pub record NestedAs (part : List ℕ) (at : ℕ) (reached : Reached) (fresh named : List ℕ) (r : Result Finding Faulted) (fresh' named' : List ℕ) : Type 0 where
   pub found : FindingIs (λ p. nested_found p part) at reached fresh named r fresh' named'
 
-pub record RoomyAs (part : List ℕ) (at : ℕ) (reached : Reached) (fresh named : List ℕ) (r : Finding) (fresh' named' : List ℕ) : Type 0 where
+pub record RoomyAs (part : List ℕ) (at : ℕ) (reached : Reached) (fresh named : List ℕ) (r : Result Finding Faulted) (fresh' named' : List ℕ) : Type 0 where
   pub found : FindingIs (λ p. roomy_found p part) at reached fresh named r fresh' named'
 
 -- of any command, judged by the edges in the rows too
-pub record FoundAs (part : List ℕ) (at : ℕ) (reached : Reached) (rows fresh named : List ℕ) (r : Finding) (fresh' named' : List ℕ) : Type 0 where
+pub record FoundAs (part : List ℕ) (at : ℕ) (reached : Reached) (rows fresh named : List ℕ) (r : Result Finding Faulted) (fresh' named' : List ℕ) : Type 0 where
   pub found : FindingIs (λ p. laid_found (map (edge_in rows) (up_to reached.counts.edges)) (roomy_found p part)) at reached fresh named r fresh' named'

@@ -1,15 +1,16 @@
-// What is found where a command should start: a command as a step, and, in tables of their own, the fresh shapes that it makes and the shapes
+// What is found where a command should start: a command with its row, and, in tables of their own, the fresh shapes that it makes and the shapes
 // that it names. A 28 has a form of its own; every other command is judged by `next`. 19 is the last check of every shape command, 20 that of a 03.
 ghost use Rattle.std.specs.Prelude.{◌≡◌, ◌+◌, ◌≤◌, map};
 ghost use Rattle.fixpoint.specs.Lists.{up_to};
 ghost use Rattle.cases.specs.Rows.{edge_in};
-ghost use Rattle.finding.specs.Finding.{nothing_reached, refused_finding, shape_step, part_finding, is_shape, is_beyond, with_room, is_unlaid, with_edge};
+ghost use Rattle.finding.specs.Finding.{nothing_reached, shape_finding, part_finding, is_shape, with_room, with_edge};
 ghost use Rattle.finding.specs.Finding.{PlainRoom, PlainAs, FindRoom, NestedAs, RoomyAs, RowRoom, FoundAs};
 
 use crate::noting::note;
-use cases::answers::{Step, Taken, number_of};
-use cases::command::{Command, Row, shape_rule_of};
-use cases::counts::{Counts, no_counts, shape_limit};
+use cases::answers::{Accepted, Taken};
+use cases::command::{Command, Row, ShapeRule};
+use cases::counts::{Counts, shape_limit};
+use cases::refusals::Fault;
 use fitness::faults::{in_order, next};
 use fitness::parking::edge_there;
 use parts::readers::{Cursor, Opened, read_part};
@@ -31,74 +32,64 @@ pub fn nothing_reached(profile: usize) -> Reached
     Reached {
         profile,
         last: 0,
-        counts: no_counts(),
+        counts: Counts::default(),
         fresh: 0,
         noted: 0,
     }
 }
 
-// A step, and how many fresh rows and notes there are with it.
+// A command, and how many fresh rows and notes there are with it.
 #[derive(Clone, Copy)]
 pub struct Finding {
-    pub step: Step,
+    pub accepted: Accepted,
     pub fresh: usize,
     pub noted: usize,
 }
 
-fn refused_finding(number: usize, reached: Reached) -> Finding
-    ensures { result ≡ refused_finding number reached }
-{
-    Finding {
-        step: Step::Refused(number),
-        fresh: reached.fresh,
-        noted: reached.noted,
-    }
-}
-
 // A command but 28, and the shapes that it names noted.
-fn find_plain(part: &[u8], at: usize, reached: Reached, named: &mut [usize]) -> Finding
+fn find_plain(
+    part: &[u8],
+    at: usize,
+    reached: Reached,
+    named: &mut [usize],
+) -> Result<Finding, Fault>
     requires { PlainRoom part.now reached named.old }
     ensures { PlainAs part.now at reached named.old result named.new }
 {
-    let step = next(part, reached.profile, reached.last, reached.counts);
-    let Step::Is(command, _, _) = step else {
-        return refused_finding(number_of(step), reached);
-    };
-    let noted = note(command, at, named, reached.noted);
-    Finding {
-        step,
+    let accepted = next(part, reached.profile, reached.last, reached.counts)?;
+    let noted = note(accepted.command, at, named, reached.noted);
+    Ok(Finding {
+        accepted,
         fresh: reached.fresh,
         noted,
+    })
+}
+
+// A shape whose rule is the row's, read up to the cursor.
+fn shape_finding(row: Row, after: Cursor) -> Finding
+    ensures { result ≡ shape_finding row after }
+{
+    Finding {
+        accepted: Accepted {
+            command: Command::Shape(ShapeRule::from(row)),
+            row,
+            taken: Taken {
+                group: 4,
+                width: after.at,
+            },
+        },
+        fresh: after.fresh,
+        noted: after.noted,
     }
 }
 
-// A shape whose rule is the row's.
-fn shape_step(row: Row, width: usize) -> Step
-    ensures { result ≡ shape_step row width }
-{
-    Step::Is(
-        Command::Shape(shape_rule_of(row)),
-        row,
-        Taken { group: 4, width },
-    )
-}
-
 // A part as a written shape: a named shape is the or of that shape with itself.
-fn part_finding(opened: Opened, reached: Reached) -> Finding
-    ensures { result ≡ part_finding opened reached }
+fn part_finding(opened: Opened) -> Finding
+    ensures { result ≡ part_finding opened }
 {
     match opened {
-        Opened::Refused(number) => refused_finding(number, reached),
-        Opened::Name(shape, after) => Finding {
-            step: shape_step(Row(0x23, shape, shape, 0), after.at),
-            fresh: after.fresh,
-            noted: after.noted,
-        },
-        Opened::Rule(row, after) => Finding {
-            step: shape_step(row, after.at),
-            fresh: after.fresh,
-            noted: after.noted,
-        },
+        Opened::Name(shape, after) => shape_finding(Row(0x23, shape, shape, 0), after),
+        Opened::Rule(row, after) => shape_finding(row, after),
     }
 }
 
@@ -109,16 +100,16 @@ fn find_nested(
     reached: Reached,
     fresh: &mut [u16],
     named: &mut [usize],
-) -> Finding
+) -> Result<Finding, Fault>
     requires { FindRoom part.now reached fresh.old named.old }
     ensures { NestedAs part.now at reached fresh.old named.old result fresh.new named.new }
 {
     let counts = reached.counts;
     if !in_order(reached.last, 4) {
-        return refused_finding(2, reached);
+        return Err(Fault::OutOfOrder);
     }
     if shape_limit(reached.profile) <= counts.shapes {
-        return refused_finding(4, reached);
+        return Err(Fault::BeyondLimit);
     }
     let cursor = Cursor {
         place: at,
@@ -126,46 +117,26 @@ fn find_nested(
         fresh: reached.fresh,
         noted: reached.noted,
     };
-    part_finding(read_part(part, 7, counts, cursor, fresh, named), reached)
+    let opened = read_part(part, 7, counts, cursor, fresh, named)?;
+    Ok(part_finding(opened))
 }
 
 fn is_shape(command: Command) -> bool
     ensures { result ≡ is_shape command }
 {
-    match command {
-        Command::Nodes(_) => false,
-        Command::Edge(_) => false,
-        Command::Path(_) => false,
-        Command::Shape(_) => true,
-        Command::Target(_) => false,
-        Command::End => false,
-    }
+    matches!(command, Command::Shape(_))
 }
 
-// Whether a step is a shape, and there are already as many as there may be under the profile.
-fn is_beyond(step: Step, profile: usize, shapes: usize) -> bool
-    ensures { result ≡ is_beyond step profile shapes }
-{
-    let Step::Is(command, _, _) = step else {
-        return false;
-    };
-    if is_shape(command) {
-        return shape_limit(profile) <= shapes;
-    }
-    false
-}
-
-// 19, after all other checks of a shape command.
-fn with_room(finding: Finding, reached: Reached) -> Finding
+// 19, after all other checks of a shape command: there are already as many shapes as there may be under the profile.
+fn with_room(finding: Finding, reached: Reached) -> Result<Finding, Fault>
     requires { reached.counts.shapes + finding.fresh ≤ 1000 }
     ensures { result ≡ with_room finding reached }
 {
-    let step = finding.step;
-    let counts = reached.counts;
-    if is_beyond(step, reached.profile, counts.shapes + finding.fresh) {
-        return refused_finding(19, reached);
+    let shapes = reached.counts.shapes + finding.fresh;
+    if is_shape(finding.accepted.command) && shape_limit(reached.profile) <= shapes {
+        return Err(Fault::TooManyShapes);
     }
-    finding
+    Ok(finding)
 }
 
 // Any command, judged by all but 20.
@@ -175,38 +146,28 @@ fn find_roomy(
     reached: Reached,
     fresh: &mut [u16],
     named: &mut [usize],
-) -> Finding
+) -> Result<Finding, Fault>
     requires { FindRoom part.now reached fresh.old named.old }
     ensures { RoomyAs part.now at reached fresh.old named.old result fresh.new named.new }
 {
-    if part[0] == 0x28 {
-        return with_room(find_nested(part, at, reached, fresh, named), reached);
-    }
-    with_room(find_plain(part, at, reached, named), reached)
-}
-
-// Whether a step is a 03 of an edge that was not laid before it.
-fn is_unlaid(step: Step, edges: usize, rows: &[u16]) -> bool
-    requires { RowRoom edges rows.now }
-    ensures { result ≡ is_unlaid step (map (edge_in rows.now) (up_to edges)) }
-{
-    match step {
-        Step::Refused(_) => false,
-        Step::Is(command, _, _) => !edge_there(command, edges, rows),
-    }
+    let finding = if part[0] == 0x28 {
+        find_nested(part, at, reached, fresh, named)?
+    } else {
+        find_plain(part, at, reached, named)?
+    };
+    with_room(finding, reached)
 }
 
 // 20, after all other checks of a 03. The rows hold the edges so far.
-fn with_edge(finding: Finding, reached: Reached, rows: &[u16]) -> Finding
+fn with_edge(finding: Finding, reached: Reached, rows: &[u16]) -> Result<Finding, Fault>
     requires { RowRoom reached.counts.edges rows.now }
-    ensures { result ≡ with_edge finding reached (map (edge_in rows.now) (up_to reached.counts.edges)) }
+    ensures { result ≡ with_edge finding (map (edge_in rows.now) (up_to reached.counts.edges)) }
 {
-    let step = finding.step;
     let counts = reached.counts;
-    if is_unlaid(step, counts.edges, rows) {
-        return refused_finding(20, reached);
+    if !edge_there(finding.accepted.command, counts.edges, rows) {
+        return Err(Fault::NeverLaid);
     }
-    finding
+    Ok(finding)
 }
 
 // Finds the command that `part` starts with, which stands at `at`.
@@ -217,11 +178,11 @@ pub fn find(
     rows: &[u16],
     fresh: &mut [u16],
     named: &mut [usize],
-) -> Finding
+) -> Result<Finding, Fault>
     requires find_room { FindRoom part.now reached fresh.old named.old }
     requires row_room { RowRoom reached.counts.edges rows.now }
     ensures { FoundAs part.now at reached rows.now fresh.old named.old result fresh.new named.new }
 {
-    let finding = find_roomy(part, at, reached, fresh, named);
+    let finding = find_roomy(part, at, reached, fresh, named)?;
     with_edge(finding, reached, rows)
 }

@@ -4,18 +4,20 @@ ghost use Rattle.cases.specs.Reading.{shapes_named};
 ghost use Rattle.parts.specs.Tables.{Noted, NoteRoom};
 
 use cases::command::Command;
-use cases::shape_operands::{References, references_of};
+use cases::few::Few;
+use cases::numbers::Shape;
+use cases::shape_operands::references_of;
 use parts::tables::note_one;
 
 // Notes the shapes that a rule refers to.
-fn note_all(references: References, place: usize, named: &mut [usize], count: usize) -> usize
+fn note_all(references: Few<Shape>, place: usize, named: &mut [usize], count: usize) -> usize
     requires { NoteRoom (listed references) count named.old }
     ensures { Noted (listed references) place count named.old result named.new }
 {
     match references {
-        References::No => count,
-        References::One(s) => note_one(s, place, named, count),
-        References::Two(s, t) => {
+        Few::No => count,
+        Few::One(s) => note_one(s, place, named, count),
+        Few::Two(s, t) => {
             let more = note_one(s, place, named, count);
             note_one(t, place, named, more)
         }

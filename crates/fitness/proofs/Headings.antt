@@ -7,7 +7,7 @@ use mathlib.Core.Bool.{Bool, true, false, not, and-eq-true_iff}
 use mathlib.Core.List.{List}
 use lib.ListN.{length, get_or}
 use lib.Dec.{eqb, ltb}
-use borrow.Author.Tests.{eqb-true, lt-ltb, le-ltb, eq-eqb, ne_eqb}
+use borrow.Author.Tests.{eqb-true, le-ltb, ne_eqb}
 use Rattle.fixpoint.proofs.Lists.{tests, by_test}
 use Rattle.cases.specs.Reading.{HeadingIs as Is, HeadingRefused as Refused}
 use Rattle.cases.specs.declared.command.Row.{Row}
@@ -32,17 +32,14 @@ module _ (s : List ℕ) (h : headed s ≡ true) where
     unfolding heading_of
     heading_cut e = rw (h, cut s read e)
 
-    module _ {row : Row} (e : answer ≡ Some row) {b : Bool} (k : b ≡ is_profile row.1) where
+    module _ {row : Row} (e : answer ≡ Some row) {profile : ℕ} (said : profile ≡ row.1) {b : Bool} (k : b ≡ is_profile profile) where
       pub heading_unknown : not b ≡ true → Refused 22 ≡ heading_of s
       unfolding heading_of
-      heading_unknown n = rw (h, (completed s read e).0, (completed s read e).1, failed k n)
+      heading_unknown n = rw (h, (completed s read e).0, (completed s read e).1, ← said, failed k n)
 
-      pub heading_said : not b ≡ false → Is row.1 2 ≡ heading_of s
+      pub heading_said : not b ≡ false → Is profile 2 ≡ heading_of s
       unfolding heading_of
-      heading_said n = rw (h, (completed s read e).0, (completed s read e).1, passed k n)
-
-pub is_headed : (s : List ℕ) → (length s ≡ 0 → ⊥) → get_or s 0 0 ≡ 0 → headed s ≡ true
-is_headed s h e = rw (lt-ltb 0 (length s) (omega arith), eq-eqb (get_or s 0 0) 0x00 e)
+      heading_said n = rw (h, (completed s read e).0, (completed s read e).1, ← said, passed k n)
 
 pub heading_empty : (s : List ℕ) → length s ≡ 0 → Is 0 0 ≡ heading_of s
 unfolding heading_of

@@ -14,7 +14,7 @@ use Rattle.cases.specs.declared.command.Command.{Command}
 use Rattle.cases.specs.declared.command.Row.{Row}
 use Rattle.cases.specs.declared.counts.Counts.{Counts}
 use Rattle.cases.specs.declared.format.Format.{Format}
-use Rattle.cases.specs.Format.{format_of, group_of, width_of, taken_by, taken_of, row_of, complete, operands_by, missing, command_of, command_at}
+use Rattle.cases.specs.Format.{format_of, group_of, width_of, taken_by, taken_of, row_of, complete, operands_by, command_of, command_at}
 use Rattle.cases.specs.Faults.{in_order}
 use Rattle.cases.specs.Reading.{judged, step_at}
 use Rattle.cases.proofs.Formats.{group_at_most, passed, failed, cut, completed}
@@ -37,9 +37,9 @@ module _ (profile last : ℕ) (k : Counts) (s : List ℕ) {f : Format} (o : f �
         ordered : in_order last (group_of (get_or s 0 0)) ≡ true
         ordered = rw (t, o) at (passed h g)
 
-        pub step_cut : operands ≡ None → {n : ℕ} → n ≡ missing operands → Refused n ≡ step_at profile last k s
+        pub step_cut : operands ≡ None → Refused 3 ≡ step_at profile last k s
         unfolding step_at operands_by complete width_of
-        step_cut e m = rw (m, e, known, ordered, cut s (rw o at r) e)
+        step_cut e = rw (known, ordered, cut s (rw o at r) e)
 
         pub step_judged : {row : Row} → operands ≡ Some row → {command : Command} → command ≡ command_of taken.group row
             → {step : Step} → step ≡ judged profile k command row taken → step ≡ step_at profile last k s

@@ -1,15 +1,16 @@
 // What is at fault with a command but 28, judged by the profile and by what has been read before it: refusals 1 to 7 in their order.
 ghost use Rattle.std.specs.Prelude.{◌≡◌, ◌<◌, ◌&&◌, ltb, length};
 ghost use Rattle.cases.specs.Faults.{in_order, within_limit, nodes_known, paths_earlier, least_positive};
-ghost use Rattle.cases.specs.Reading.{judged, step_at};
+ghost use Rattle.cases.specs.Reading.{judged, step_at, step_says};
 
 use crate::shapes::{all_earlier, shape_least_positive, shape_nodes_known, shape_paths_earlier};
-use cases::answers::{Step, Taken};
-use cases::command::{Command, Row, command_of};
+use cases::answers::Accepted;
+use cases::command::{Command, command_of};
 use cases::counts::{Counts, EDGE_LIMIT, PATH_LIMIT, TARGET_LIMIT, node_limit, shape_limit};
-use cases::format::{Operands, format_of, missing_number, read_operands, taken_by};
+use cases::format::{format_of, read_operands, taken_by};
 use cases::numbers::Node;
 use cases::paths::paths_of_path;
+use cases::refusals::Fault;
 
 // Whether a command of this group may come after one of the group `last`, 0 before the 01: one 01 first, then the groups in their order. A 00,
 // of group 0, may come nowhere here.
@@ -85,41 +86,50 @@ fn least_positive(command: Command) -> bool
 }
 
 // Judges a command that is there whole: refusals 4 to 7.
-fn judge(profile: usize, counts: Counts, command: Command, row: Row, taken: Taken) -> Step
-    ensures { result ≡ judged profile counts command row taken }
+fn judge(profile: usize, counts: Counts, found: Accepted) -> Result<Accepted, Fault>
+    ensures { step_says result ≡ judged profile counts found.command found.row found.taken }
 {
+    let command = found.command;
     if !within_limit(profile, counts, command) {
-        return Step::Refused(4);
+        return Err(Fault::BeyondLimit);
     }
     if !nodes_known(counts, command) {
-        return Step::Refused(5);
+        return Err(Fault::UnknownNode);
     }
     if !paths_earlier(counts, command) {
-        return Step::Refused(6);
+        return Err(Fault::UnknownPath);
     }
     if !least_positive(command) {
-        return Step::Refused(7);
+        return Err(Fault::LeastZero);
     }
-    Step::Is(command, row, taken)
+    Ok(found)
 }
 
 // Reads and judges the command that `part` starts with, under a profile and after one of the group `last`.
-pub fn next(part: &[u8], profile: usize, last: usize, counts: Counts) -> Step
+pub fn next(part: &[u8], profile: usize, last: usize, counts: Counts) -> Result<Accepted, Fault>
     requires { 0 < length part.now }
-    ensures { result ≡ step_at profile last counts part.now }
+    ensures { step_says result ≡ step_at profile last counts part.now }
 {
     let format = format_of(part[0]);
     let taken = taken_by(format);
     let group = taken.group;
     if group == 7 {
-        return Step::Refused(1);
+        return Err(Fault::UnknownCommand);
     }
     if !in_order(last, group) {
-        return Step::Refused(2);
+        return Err(Fault::OutOfOrder);
     }
-    let operands = read_operands(part, format);
-    let Operands::Complete(row) = operands else {
-        return Step::Refused(missing_number(operands));
+    let Some(row) = read_operands(part, format) else {
+        return Err(Fault::Incomplete);
     };
-    judge(profile, counts, command_of(group, row), row, taken)
+    let command = command_of(group, row);
+    judge(
+        profile,
+        counts,
+        Accepted {
+            command,
+            row,
+            taken,
+        },
+    )
 }

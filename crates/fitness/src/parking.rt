@@ -5,23 +5,17 @@ ghost use Rattle.cases.specs.Case.{edge_is};
 ghost use Rattle.cases.specs.Faults.{laid, edge_there};
 ghost use Rattle.cases.specs.Rows.{Full, edge_in};
 
-use cases::command::{Command, Edge, LAID, PARKED, edge_of};
+use cases::command::{Command, Edge, LAID, PARKED};
 use cases::rows::row_in;
 
 // Whether an edge is laid by an 02 with the operands of another. Ends differ most often, so they are asked first.
 fn lays(edge: Edge, other: Edge) -> bool
     ensures { result ≡ edge_is 0x02 other.property.0 other.subject.0 other.object.0 edge }
 {
-    if edge.object.0 != other.object.0 {
-        return false;
-    }
-    if edge.subject.0 != other.subject.0 {
-        return false;
-    }
-    if edge.property.0 != other.property.0 {
-        return false;
-    }
-    edge.code == LAID
+    edge.object == other.object
+        && edge.subject == other.subject
+        && edge.property == other.property
+        && edge.code == LAID
 }
 
 // Whether it is one of the first so many edges in the rows.
@@ -29,13 +23,7 @@ pub fn is_laid(edge: Edge, edges: usize, rows: &[u16]) -> bool
     requires { 4 * edges ≤ length rows.now }
     ensures { result ≡ laid (map (edge_in rows.now) (up_to edges)) edge }
 {
-    // none of the edges below i
-    for i in 0..edges {
-        if lays(edge_of(row_in(rows, i)), edge) {
-            return true;
-        }
-    }
-    false
+    (0..edges).any(|i| lays(Edge::from(row_in(rows, i)), edge))
 }
 
 fn parks_laid(edge: Edge, edges: usize, rows: &[u16]) -> bool
@@ -43,10 +31,7 @@ fn parks_laid(edge: Edge, edges: usize, rows: &[u16]) -> bool
     requires edges_bound { edges ≤ 1036 }
     ensures { result ≡ (not (eqb edge.code 0x03) || laid (map (edge_in rows.now) (up_to edges)) edge) }
 {
-    if edge.code == PARKED {
-        return is_laid(edge, edges, rows);
-    }
-    true
+    edge.code != PARKED || is_laid(edge, edges, rows)
 }
 
 pub fn edge_there(command: Command, edges: usize, rows: &[u16]) -> bool

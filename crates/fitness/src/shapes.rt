@@ -5,7 +5,9 @@ ghost use Rattle.cases.specs.References.{listed_paths};
 ghost use Rattle.cases.specs.Faults.{shape_nodes_known, shape_paths_earlier, shape_least_positive};
 
 use cases::command::ShapeRule;
-use cases::paths::{Paths, paths_of_shape};
+use cases::few::Few;
+use cases::numbers::Path;
+use cases::paths::paths_of_shape;
 
 pub fn shape_nodes_known(nodes: usize, rule: ShapeRule) -> bool
     ensures { result ≡ shape_nodes_known nodes rule }
@@ -23,14 +25,10 @@ pub fn shape_nodes_known(nodes: usize, rule: ShapeRule) -> bool
 }
 
 // Whether each of the paths stands earlier.
-pub fn all_earlier(named: Paths, paths: usize) -> bool
+pub fn all_earlier(named: Few<Path>, paths: usize) -> bool
     ensures { result ≡ all (listed_paths named) (λ p. ltb p paths) }
 {
-    match named {
-        Paths::No => true,
-        Paths::One(p) => p.0 < paths,
-        Paths::Two(p, q) => p.0 < paths && q.0 < paths,
-    }
+    named.fold(true, |all, p| all && p.0 < paths)
 }
 
 pub fn shape_paths_earlier(paths: usize, rule: ShapeRule) -> bool

@@ -1,17 +1,19 @@
 -- Checking: its refusal is that of the definition, and so is its answer. Assumes nothing.
 use Prim.Native.Nat.{ℕ, ◌*◌, ◌≤◌}
 use native.Mathlib.Omega.{arith}
-use mathlib.Core.Path.{◌≡◌, sym, ap, ap₂, ◌∙◌}
+use mathlib.Core.Path.{◌≡◌, refl, sym, ap, ap₂, ◌∙◌}
 use mathlib.Core.Bool.{true}
 use mathlib.Core.List.{List}
 use lib.ListN.{length}
 use lib.Dec.{leb}
 use borrow.Author.Tests.{leb-true}
 use Rattle.cases.specs.Rows.{case_in}
-use Rattle.cases.specs.declared.answers.Parsed.{Parsed}
-use Rattle.cases.specs.Refusals.{Refusal}
+use Rattle.cases.specs.declared.refusals.Refused.{Refused}
+use Rattle.cases.specs.Refusals.{Refusal, no_refusal, refusal_says}
+use Rattle.cases.proofs.Faulted.{refused_some}
 use Rattle.cases.specs.declared.counts.Counts.{Counts}
-use Rattle.reader.specs.Parsing.{ParsedAs}
+use Rattle.std.specs.Prelude.{Err}
+use Rattle.reader.specs.Parsing.{Parsed, ParsedAs, parsed_in}
 use Rattle.semantics.specs.declared.answers.Checked.{Checked}
 use Rattle.semantics.specs.Operations.{or_else, refuse_unless, too_short, case_of, check_fault, check_refusal, checked, check_answer}
 use Rattle.semantics.specs.Values.{pair_count}
@@ -23,11 +25,6 @@ use Rattle.judge.specs.Checked.{short_check}
 use Rattle.semantics.specs.Answered.{refused_checked}
 use Rattle.pairs.proofs.Answered.{pairs_in}
 use Rattle.adding.proofs.Parsed.{parsed_refusal, parsed_case}
-
--- 10, then 11
-pub short_checked : (counts : Counts) (values levels : ℕ) {v l r : Refusal} → v ≡ refuse_unless (leb (counts.shapes * counts.nodes) values) 10 (counts.shapes * counts.nodes)
-    → l ≡ refuse_unless (leb (2 * (counts.shapes * counts.nodes)) levels) 11 (2 * (counts.shapes * counts.nodes)) → r ≡ or_else v l → r ≡ short_check counts values levels
-short_checked counts values levels e f g = g ∙ ap₂ or_else e f
 
 module _ {s : List ℕ} {p : Parsed} {rows : List ℕ} (values levels : List ℕ) {short r : Refusal} (h : ParsedAs s p rows)
     (q : short ≡ short_check p.counts (length values) (length levels)) (e : r ≡ or_else p.refusal short) where
@@ -42,7 +39,7 @@ module _ {s : List ℕ} {p : Parsed} {rows : List ℕ} (values levels : List ℕ
       (sym (or_else_assoc p.refusal (or_else values_short levels_short) (proposal_fault Newer c values levels)
       ∙ ap (or_else p.refusal) (or_else_assoc values_short levels_short (proposal_fault Newer c values levels))))
 
-  pub check_refused : {a : Checked} → (r.number ≡ 0 → ⊥) → a ≡ refused_checked r → a ≡ check_answer s values levels
+  check_refused : {a : Checked} → (r.number ≡ 0 → ⊥) → a ≡ refused_checked r → a ≡ check_answer s values levels
   unfolding check_answer
   check_refused some f = f ∙ refused_is r (case_of s) values some ∙ ap (λ (o : Refusal). checked o (case_of s) values) (sym (refusal_is ∙ or_else_this r _ some))
 
@@ -54,12 +51,34 @@ module _ {s : List ℕ} {p : Parsed} {rows : List ℕ} (values levels : List ℕ
         (unless_none (leb (2 * (p.counts.shapes * p.counts.nodes)) (length levels)) 11 _ (omega arith)))).0
         (rw (e, q) at none)
 
-    pub check_values_there : p.counts.shapes * p.counts.nodes ≤ length values
-    check_values_there = leb-true _ _ passed.1.0
+    values_there : p.counts.shapes * p.counts.nodes ≤ length values
+    values_there = leb-true _ _ passed.1.0
 
-    pub check_levels_there : 2 * (p.counts.shapes * p.counts.nodes) ≤ length levels
-    check_levels_there = leb-true _ _ passed.1.1
+    levels_there : 2 * (p.counts.shapes * p.counts.nodes) ≤ length levels
+    levels_there = leb-true _ _ passed.1.1
 
-    pub check_read : {a : Checked} → a ≡ checked (proposal_fault Newer (case_in p.counts rows) values levels) (case_in p.counts rows) values → a ≡ check_answer s values levels
+    proposal_read : {a : Checked} → a ≡ checked (proposal_fault Newer (case_in p.counts rows) values levels) (case_in p.counts rows) values → a ≡ check_answer s values levels
     unfolding check_answer
-    check_read f = f ∙ ap₂ (λ o c. checked o c values) (sym (refusal_is ∙ or_else_next r _ none)) (parsed_case h)
+    proposal_read f = f ∙ ap₂ (λ o c. checked o c values) (sym (refusal_is ∙ or_else_next r _ none)) (parsed_case h)
+
+-- reading's refusal, then that of the lengths, then the rest
+module _ {s rows : List ℕ} (values levels : List ℕ) where
+  pub check_unread : (e : Refused) → ParsedAs s (parsed_in (Err e)) rows → refused_checked (refusal_says e) ≡ check_answer s values levels
+  check_unread e h = check_refused values levels h refl (sym (or_else_this _ _ (refused_some e))) (refused_some e) refl
+
+  module _ {counts : Counts} (h : ParsedAs s (record { refusal = no_refusal; counts = counts }) rows) where
+    pub check_short : (e : Refused) → refusal_says e ≡ short_check counts (length values) (length levels) → refused_checked (refusal_says e) ≡ check_answer s values levels
+    check_short e q = check_refused values levels h q (sym (or_else_next no_refusal _ refl)) (refused_some e) refl
+
+    module _ (q : no_refusal ≡ short_check counts (length values) (length levels)) where
+      abbrev none : no_refusal ≡ or_else no_refusal no_refusal
+      none = sym (or_else_next no_refusal no_refusal refl)
+
+      pub check_values_there : counts.shapes * counts.nodes ≤ length values
+      check_values_there = values_there values levels h q none refl
+
+      pub check_levels_there : 2 * (counts.shapes * counts.nodes) ≤ length levels
+      check_levels_there = levels_there values levels h q none refl
+
+      pub check_read : {a : Checked} → a ≡ checked (proposal_fault Newer (case_in counts rows) values levels) (case_in counts rows) values → a ≡ check_answer s values levels
+      check_read = proposal_read values levels h q none refl

@@ -1,7 +1,7 @@
 -- Totals by fitting: their refusal is that of the definition, and what is counted off the solved sets is what it counts. Assumes nothing.
 use Prim.Native.Nat.{ℕ, ◌+◌, ◌*◌, ◌<◌}
 use native.Mathlib.Omega.{arith}
-use mathlib.Core.Path.{◌≡◌, sym, ap₂, ◌∙◌}
+use mathlib.Core.Path.{◌≡◌, refl, sym, ap₂, ◌∙◌}
 use mathlib.Core.Bool.{true}
 use mathlib.Core.List.{List}
 use lib.ListN.{get_or}
@@ -9,19 +9,21 @@ use lib.Dec.{eqb, ltb}
 use borrow.Author.Tests.{ne_eqb, ltb-true}
 use Rattle.cases.specs.Counts.{words_of}
 use Rattle.cases.specs.Rows.{case_in, CaseIn}
-use Rattle.cases.specs.declared.answers.Parsed.{Parsed}
-use Rattle.cases.specs.Refusals.{Refusal, no_refusal}
+use Rattle.cases.specs.declared.refusals.Refused.{Refused}
+use Rattle.cases.specs.Refusals.{Refusal, no_refusal, refusal_says}
+use Rattle.cases.proofs.Faulted.{refused_some}
 use Rattle.cases.specs.declared.counts.Counts.{Counts}
 use Rattle.cases.proofs.InRows.{nodes_in, shapes_in}
 use Rattle.fixpoint.specs.Lists.{up_to, count}
 use Rattle.fixpoint.proofs.Lists.{count_map}
-use Rattle.reader.specs.Parsing.{ParsedAs}
+use Rattle.std.specs.Prelude.{Err}
+use Rattle.reader.specs.Parsing.{Parsed, ParsedAs, parsed_in}
 use Rattle.semantics.specs.declared.answers.Totals.{Totals}
 use Rattle.semantics.specs.Operations.{or_else, refuse_unless, counted, tally}
 use Rattle.semantics.specs.Solving.{solved_values}
 use Rattle.semantics.specs.Totals.{node_tally, totals_fault, totals_refusal, totals, totals_answer}
 use Rattle.semantics.specs.Values.{pair_of, entry_at}
-use Rattle.semantics.proofs.Refusing.{or_else_none, unless_none}
+use Rattle.semantics.proofs.Refusing.{or_else_next, or_else_this, or_else_none, unless_none}
 use Rattle.solver.specs.Rounding.{SetsSolved}
 use Rattle.pairs.specs.Values.{node_values, node_totals}
 use Rattle.pairs.proofs.Answered.{values_by_lem}
@@ -36,9 +38,9 @@ module _ {s : List ℕ} {p : Parsed} {rows : List ℕ} (node : ℕ) {unknown r :
   unfolding totals_refusal totals_fault
   refusal_is = rw (← parsed_refusal h, ← parsed_case h, nodes_in p.counts rows) (e ∙ rw q)
 
-  pub totals_refused : {a : Totals} → (r.number ≡ 0 → ⊥) → a ≡ refused_totals r → a ≡ totals_answer s node
+  totals_refused : (r.number ≡ 0 → ⊥) → refused_totals r ≡ totals_answer s node
   unfolding totals_answer totals counted
-  totals_refused some f = rw (← refusal_is) (f ∙ rw (ne_eqb r.number 0 some))
+  totals_refused some = rw (← refusal_is) (rw (ne_eqb r.number 0 some))
 
   module _ (none : r.number ≡ 0) where
     passed : (p.refusal.number ≡ 0) × (ltb node p.counts.nodes ≡ true)
@@ -47,16 +49,35 @@ module _ {s : List ℕ} {p : Parsed} {rows : List ℕ} (node : ℕ) {unknown r :
         (unless_none (ltb node p.counts.nodes) 5 node (omega arith))).0
         (rw (e, q) at none)
 
-    pub node_known : node < p.counts.nodes
-    node_known = ltb-true _ _ passed.1
+    node_there : node < p.counts.nodes
+    node_there = ltb-true _ _ passed.1
 
     well : r ≡ no_refusal
     unfolding or_else refuse_unless
     well = e ∙ rw (passed.0, q, passed.1)
 
-    pub totals_read : {a : Totals} → a ≡ totals no_refusal (case_in p.counts rows) node → a ≡ totals_answer s node
+    case_read : {a : Totals} → a ≡ totals no_refusal (case_in p.counts rows) node → a ≡ totals_answer s node
     unfolding totals_answer
-    totals_read f = rw (← refusal_is, well, ← parsed_case h) f
+    case_read f = rw (← refusal_is, well, ← parsed_case h) f
+
+-- reading's refusal, then that of the node, then the rest
+module _ {s rows : List ℕ} (node : ℕ) where
+  pub totals_unread : (e : Refused) → ParsedAs s (parsed_in (Err e)) rows → refused_totals (refusal_says e) ≡ totals_answer s node
+  totals_unread e h = totals_refused node h refl (sym (or_else_this _ _ (refused_some e))) (refused_some e)
+
+  module _ {counts : Counts} (h : ParsedAs s (record { refusal = no_refusal; counts = counts }) rows) where
+    pub totals_unknown : (e : Refused) → refusal_says e ≡ refuse_unless (ltb node counts.nodes) 5 node → refused_totals (refusal_says e) ≡ totals_answer s node
+    totals_unknown e q = totals_refused node h q (sym (or_else_next no_refusal _ refl)) (refused_some e)
+
+    module _ (q : no_refusal ≡ refuse_unless (ltb node counts.nodes) 5 node) where
+      abbrev none : no_refusal ≡ or_else no_refusal no_refusal
+      none = sym (or_else_next no_refusal no_refusal refl)
+
+      pub node_known : node < counts.nodes
+      node_known = node_there node h q none refl
+
+      pub totals_read : {a : Totals} → a ≡ totals no_refusal (case_in counts rows) node → a ≡ totals_answer s node
+      totals_read = case_read node h q none refl
 
 -- A case that was read: the node's pairs are counted off the solved sets
 module _ {counts : Counts} {rows valid possible : List ℕ} (h : CaseIn counts rows) {rounds : ℕ} (k : SetsSolved (case_in counts rows) (words_of counts) valid possible rounds)

@@ -1,6 +1,6 @@
 -- Numbers by their binary digits, in the rows of a table of words: row k has the nodes whose number has digit k. So the levels of a shape are
 -- kept, and compared with a bound a word at a time. Assumes nothing.
-use Rattle.std.specs.Prelude.{ℕ, ◌*◌, ◌/◌, ◌+◌, ◌^◌, ◌<◌, ◌≤◌, ◌≡◌, Bool, cond, not, ◌&&◌, ◌||◌, List, length, eqb, ltb}
+use Rattle.std.specs.Prelude.{ℕ, ◌*◌, ◌/◌, ◌+◌, ◌^◌, ◌<◌, ◌≤◌, ◌≡◌, Bool, cond, not, ◌&&◌, ◌||◌, Option, Some, List, length, eqb, ltb}
 use Rattle.bitset.specs.Words.{bit, member}
 use Rattle.cases.specs.declared.counts.Size.{Size}
 use Rattle.justifying.specs.LevelRows.{level_at}
@@ -21,9 +21,9 @@ pub record DigitsOf (levels : List ℕ) (size : Size) (s : ℕ) (digits : List �
   pub there : 16 * size.words ≤ length digits
   pub each : (a : ℕ) → a < size.nodes → HasDigits digits size.words a used (level_at levels (s * size.nodes + a))
 
--- they do, or none is used
-pub record DigitsUnless (levels : List ℕ) (size : Size) (s : ℕ) (digits : List ℕ) (used : ℕ) : Type 0 where
-  pub right : 0 < used → DigitsOf levels size s digits used
+-- they do, if they are worked out
+pub record DigitsUnless (levels : List ℕ) (size : Size) (s : ℕ) (digits : List ℕ) (used : Option ℕ) : Type 0 where
+  pub right : (n : ℕ) → used ≡ Some n → DigitsOf levels size s digits n
 
 -- the numbers of a word that are lower than the bound, by digits compared from the highest down: those that were lower, and those that were
 -- the same and have a 0 where the bound has a 1

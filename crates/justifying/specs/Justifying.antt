@@ -1,6 +1,6 @@
 -- What 15 asks and finds, pair by pair: whether the level of a supported pair is above its support. A function that is handed a rule answers for
 -- every case in whose tables the rule is that of its shape. Assumes nothing.
-use Rattle.std.specs.Prelude.{ℕ, ◌+◌, ◌*◌, ◌<◌, ◌≤◌, ◌≡◌, Bool, true, List, length, get_or}
+use Rattle.std.specs.Prelude.{ℕ, ◌+◌, ◌*◌, ◌<◌, ◌≤◌, ◌≡◌, Bool, true, Option, List, length, get_or}
 use Rattle.bitset.specs.Words.{member}
 use Rattle.cases.specs.Case.{references}
 use Rattle.cases.specs.Rows.{case_in}
@@ -31,8 +31,8 @@ pub record LevelsRead (of : Ruled) (sets levels : List ℕ) : Type 0 where
 unfoldable pub filled_shape : ShapeRule → ℕ
 filled_shape r = get_or (references r) 0 0
 
--- the digits are those of its levels, or none is used
-abbrev pub DigitsRead : Ruled → List ℕ → List ℕ → ℕ → Type 0
+-- the digits are those of its levels, if they are worked out
+abbrev pub DigitsRead : Ruled → List ℕ → List ℕ → Option ℕ → Type 0
 DigitsRead of levels digits used = DigitsUnless levels of.size (filled_shape of.rule) digits used
 
 -- ---- A pair

@@ -5,16 +5,10 @@ ghost use Rattle.justifying.specs.LevelRows.{level_at, LevelRow};
 ghost use Rattle.justifying.specs.Digits.{DigitsInserted, DigitsOf, LowerNext, SameNext, LowerIn};
 
 use bitset::rows::{clear, insert};
-use bitset::words::{lowest_bit, without, without_bit};
+use bitset::taking::Bits;
+use bitset::words::without;
 use cases::counts::Size;
 use cases::numbers::Shape;
-
-fn wide(byte: u8) -> usize
-    ensures value { result ≡ byte }
-    ensures upper_bound { result < 256 }
-{
-    byte as usize
-}
 
 // The level of pair k: two bytes, low first.
 pub fn level_at(levels: &[u8], k: usize) -> usize
@@ -23,43 +17,29 @@ pub fn level_at(levels: &[u8], k: usize) -> usize
     ensures upper_bound { result < 65536 }
 {
     let at = 2 * k;
-    wide(levels[at]) + 256 * wide(levels[at + 1])
+    usize::from(levels[at]) + 256 * usize::from(levels[at + 1])
 }
 
-// Puts node a into the row of each digit of its level. It is in those of the digits outside `rest`.
+// Puts node a into the row of each digit of its level.
 fn insert_digits(digits: &mut [u64], w: usize, a: usize, level: usize)
     requires w_in_bounds { 16 * w ≤ length digits.old }
     requires a_bound { a < 64 * w }
     requires level_bound { level < 65536 }
     ensures { DigitsInserted digits.old w a level digits.new }
 {
-    let mut rest = level as u64;
-    while rest != 0 {
-        let k = lowest_bit(rest);
+    // it is in the rows of the digits that are taken
+    for k in Bits(level as u64) {
         insert(digits, w, k, a);
-        rest = without_bit(rest, k);
     }
 }
 
-// How many digits a number has; one at least.
+// How many digits a number has, 0 for 0.
 fn digits_of(most: usize) -> usize
     requires { most < 65536 }
     ensures upper_bound { result ≤ 16 }
     ensures result_value { most / 2 ^ result ≡ 0 }
 {
-    let mut n = 1;
-    while most >> n != 0 {
-        n += 1;
-    }
-    n
-}
-
-fn larger(x: usize, y: usize) -> usize
-    ensures lower_bound { x ≤ result }
-    ensures lower_bound_2 { y ≤ result }
-    ensures upper_bound { x < 65536 → y < 65536 → result < 65536 }
-{
-    if x < y { y } else { x }
+    (usize::BITS - most.leading_zeros()) as usize
 }
 
 // Makes the rows those of the levels of shape s, and says how many are used. The nodes below a are there, none with a level above `most`.
@@ -74,7 +54,7 @@ pub fn fill_digits(levels: &[u8], size: Size, s: Shape, digits: &mut [u64]) -> u
     for a in 0..size.nodes {
         let level = level_at(levels, s.0 * size.nodes + a);
         insert_digits(digits, size.words, a, level);
-        most = larger(most, level);
+        most = most.max(level);
     }
     digits_of(most)
 }
@@ -114,9 +94,7 @@ pub fn lower_in(digits: &[u64], w: usize, used: usize, i: usize, bound: usize) -
     }
     let mut lower = 0;
     let mut same = u64::MAX;
-    let mut k = used;
-    while 0 < k {
-        k -= 1;
+    for k in (0..used).rev() {
         let digit = digits[k * w + i];
         let one = (bound >> k) % 2 == 1;
         lower = lower_next(lower, same, digit, one);

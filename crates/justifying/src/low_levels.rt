@@ -8,7 +8,8 @@ ghost use Rattle.justifying.specs.LevelRows.{is_low, LevelRow, RowBelow, WordWhe
 
 use crate::digits::{level_at, lower_in};
 use bitset::rows::is_member;
-use bitset::words::{lowest_bit, with_bit_if, without_bit};
+use bitset::taking::Bits;
+use bitset::words::with_bit_if;
 use cases::counts::Size;
 use cases::numbers::{Node, Shape};
 
@@ -39,42 +40,32 @@ pub fn is_low_member(
     is_member(set, size.words, s.0, a.0) && is_lower(levels, bound, size, s, a)
 }
 
-// A shape whose levels are compared with a bound, and how many of their digits are worked out, 0 for none.
+// A shape whose levels are compared with a bound, and how many digits they have, if their digits are worked out.
 #[derive(Clone, Copy)]
 pub struct Lower {
     pub shape: Shape,
     pub size: Size,
-    pub used: usize,
+    pub used: Option<usize>,
     pub bound: usize,
 }
 
-// Of word i of a set of nodes, those at which the level is below the bound: node by node. Those outside `rest` are sorted out.
+// Of word i of a set of nodes, those at which the level is below the bound: node by node.
 fn lower_by_node(low: Lower, word: u64, i: usize, levels: &[u8]) -> u64
     requires word_below { WordBelow low.size.nodes i word }
     requires level_row { LevelRow levels.now low.size low.shape.0 }
     ensures { WordWhere (is_low levels.now low.bound low.size low.shape.0) word i result }
 {
     let mut lower = 0;
-    let mut rest = word;
-    while rest != 0 {
-        let j = lowest_bit(rest);
+    // those that are taken are sorted out
+    for j in Bits(word) {
         let b = 64 * i + j;
         let there = is_lower(levels, low.bound, low.size, low.shape, Node(b));
         lower = with_bit_if(lower, j, there);
-        rest = without_bit(rest, j);
     }
     lower
 }
 
-// Whether the levels at the nodes of a word are compared by digits: if there are any, and the word has eight nodes or more. Fewer levels are
-// sooner read one by one.
-fn is_by_digits(word: u64, used: usize) -> bool
-    ensures { result ≡ true → 0 < used }
-{
-    0 < used && 8 <= u64::count_ones(word)
-}
-
-// The same, by digits or node by node.
+// The same, by digits if they are worked out and the word has eight nodes or more: fewer levels are sooner read one by one.
 fn lower_word(low: Lower, word: u64, i: usize, levels: &[u8], digits: &[u64]) -> u64
     requires word_below { WordBelow low.size.nodes i word }
     requires i_lt_words { i < low.size.words }
@@ -82,8 +73,10 @@ fn lower_word(low: Lower, word: u64, i: usize, levels: &[u8], digits: &[u64]) ->
     requires digits_unless { DigitsUnless levels.now low.size low.shape.0 digits.now low.used }
     ensures { WordWhere (is_low levels.now low.bound low.size low.shape.0) word i result }
 {
-    if is_by_digits(word, low.used) {
-        return word & lower_in(digits, low.size.words, low.used, i, low.bound);
+    if let Some(used) = low.used
+        && 8 <= u64::count_ones(word)
+    {
+        return word & lower_in(digits, low.size.words, used, i, low.bound);
     }
     lower_by_node(low, word, i, levels)
 }

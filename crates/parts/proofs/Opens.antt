@@ -1,6 +1,6 @@
 -- What stands where a part opens, by the tests on the way to each answer; and a row with other shape operands. Assumes nothing.
 use Rattle.std.specs.Prelude.{Option, Some, None}
-use Prim.Native.Nat.{ℕ}
+use Prim.Native.Nat.{ℕ, ◌≤◌, ◌<◌}
 use native.Mathlib.Omega.{arith}
 use mathlib.Core.Path.{◌≡◌, ◌∙◌}
 use mathlib.Core.Bool.{true}
@@ -13,16 +13,16 @@ use Rattle.cases.specs.declared.answers.Taken.{Taken}
 use Rattle.cases.specs.declared.command.Row.{Row}
 use Rattle.cases.specs.declared.format.Format.{Format}
 use Rattle.cases.specs.Parts.{Head, Refused, Name}
-use Rattle.cases.specs.Format.{taken_by, operands_by, missing, shape_rule_of}
+use Rattle.cases.specs.Format.{taken_by, operands_by, shape_rule_of}
 use Rattle.cases.specs.Parts.{part_format_of, rule_head, at_most_head, whole_head, head_by, head_at, filled}
 use Rattle.parts.specs.Reads.{with_references}
 
 module _ (nodes paths : ℕ) (s : List ℕ) where
-  pub head_empty : length s ≡ 0 → Refused 3 ≡ head_at nodes paths s
+  pub head_empty : length s < 1 → Refused 3 ≡ head_at nodes paths s
   unfolding head_at
-  head_empty e = rw e
+  head_empty h = let e : length s ≡ 0 = omega arith in rw e
 
-  module _ (some : length s ≡ 0 → ⊥) {f : Format} (e : f ≡ part_format_of (get_or s 0 0)) where
+  module _ (some : 1 ≤ length s) {f : Format} (e : f ≡ part_format_of (get_or s 0 0)) where
     there : ltb 0 (length s) ≡ true
     there = lt-ltb 0 (length s) (omega arith)
 
@@ -35,23 +35,23 @@ module _ (nodes paths : ℕ) (s : List ℕ) where
       unfolding head_at head_by
       whole = let k : ltb 0 f.0 ≡ true = lt-ltb 0 f.0 (omega arith) in rw (there, ← e, k, ← r)
 
-      pub head_cut : o ≡ None → {n : ℕ} → n ≡ missing o → Refused n ≡ head_at nodes paths s
+      pub head_cut : o ≡ None → Refused 3 ≡ head_at nodes paths s
       unfolding whole_head
-      head_cut c m = rw (whole, m, c)
+      head_cut c = rw (whole, c)
 
       module _ {row : Row} (w : o ≡ Some row) {taken : Taken} (t : taken ≡ taken_by f) where
         pub head_name : f.0 ≡ 4 → Name row taken.width ≡ head_at nodes paths s
         unfolding whole_head
         head_name k = rw (whole, w, t, k)
 
-        module _ (four : f.0 ≡ 4 → ⊥) {h : Head} where
+        module _ {h : Head} where
           pub head_most : f.0 ≡ 5 → h ≡ at_most_head paths row taken.width → h ≡ head_at nodes paths s
           unfolding whole_head
           head_most k a = a ∙ rw (whole, w, t, k)
 
-          pub head_rule : (f.0 ≡ 5 → ⊥) → h ≡ rule_head nodes paths f.0 row taken.width → h ≡ head_at nodes paths s
+          pub head_rule : (f.0 ≡ 4 → ⊥) → (f.0 ≡ 5 → ⊥) → h ≡ rule_head nodes paths f.0 row taken.width → h ≡ head_at nodes paths s
           unfolding whole_head
-          head_rule k a = a ∙ rw (whole, w, t, ne_eqb f.0 4 four, ne_eqb f.0 5 k)
+          head_rule four five a = a ∙ rw (whole, w, t, ne_eqb f.0 4 four, ne_eqb f.0 5 five)
 
 -- a row with other shape operands says the rule with them
 pub with_references_says : (r : Row) (s t : ℕ) → shape_rule_of (with_references r s t) ≡ filled (shape_rule_of r) s t

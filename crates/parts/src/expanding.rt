@@ -63,13 +63,11 @@ pub fn expand(counts: Counts, fresh: &[u16], count: usize, rows: &mut [u16]) -> 
     requires { ExpandRoom counts fresh.now count rows.old }
     ensures { ExpandedAs counts fresh.now count rows.old result rows.new }
 {
-    let mut next = counts;
     let written = counts.shapes;
-    let total = written + count;
-    for i in 0..total {
+    let shapes = written + count;
+    for i in 0..shapes {
         let row = source_row(rows, fresh, written, i);
         put_row(rows, SHAPES + i, renumbered_row(row, written as u16));
     }
-    next.shapes = total;
-    next
+    Counts { shapes, ..counts }
 }

@@ -12,21 +12,20 @@ use borrow.Author.Tests.{lt-ltb, le-ltb, eqb-true, eqb-false}
 use Rattle.fixpoint.specs.Lists.{from, up_to, all}
 use Rattle.fixpoint.proofs.Lists.{tests, by_test, all_mono}
 use Rattle.cases.specs.Reading.{Heading, HeadingIs, HeadingRefused}
-use Rattle.cases.specs.declared.answers.Parsed.{Parsed}
-use Rattle.cases.specs.Refusals.{Refusal, no_refusal}
-use Rattle.cases.specs.Reading.{Step, Is, Refused}
+use Rattle.cases.specs.Refusals.{fault_number, Refusal, no_refusal}
 use Rattle.cases.specs.declared.answers.Taken.{Taken}
 use Rattle.cases.specs.declared.command.Command.{Command}
 use Rattle.cases.specs.declared.command.Command.TheVariants.{Nodes, End}
 use Rattle.cases.specs.declared.command.Command.TheVariants.{Edge as EdgeCommand, Path as PathCommand, Shape as ShapeCommand, Target as TargetCommand}
 use Rattle.cases.specs.declared.command.Row.{Row}
 use Rattle.cases.specs.declared.counts.Counts.{Counts}
+use Rattle.cases.specs.declared.refusals.Fault.{Fault as Faulted}
 use Rattle.cases.specs.Case.{Case, empty_case, counts_of}
 use Rattle.cases.specs.Faults.{within_limit}
 use Rattle.cases.specs.Parts.{Part, Named, Plain, Around, Joining, names, size, inner_size, rule, rules, fresh_rules, fresh_count, expansion}
-use Rattle.cases.specs.Reading.{heading_of, heading_number, number_of, Note, Progress, start, counts_so_far, add}
+use Rattle.cases.specs.Reading.{heading_of, Note, Progress, start, counts_so_far, add}
 use Rattle.cases.specs.Reading.{shapes_named, named_at, Entry, Shape, Other, pass, Found, Fault, Good, found_at}
-use Rattle.cases.specs.Reading.{unknown_shape, after_end, refused, finish, is_end, is_end_entry, stepped, walk, walked_from, walked, Outcome, expanded, outcome, reading}
+use Rattle.cases.specs.Reading.{unknown_shape, after_end, refused, finish, is_end, is_end_entry, stepped, walk, walked_from, walked, Outcome, expanded, outcome, reading, reading_of}
 use Rattle.cases.specs.Rows.{edge_in, case_in, Full}
 use Rattle.cases.proofs.Expansion.{length_rules, length_fresh_rules, length_expansion, fresh_count_more, rules_more, fresh_rules_more}
 use Rattle.cases.proofs.InRows.{counts_in, limited_fit}
@@ -39,11 +38,12 @@ use Rattle.parts.proofs.Renumbering.{expansion_moved}
 use Rattle.parts.proofs.Stores.{length_rules_in}
 use Rattle.finding.specs.declared.commands.Finding.{Finding}
 use Rattle.finding.specs.declared.commands.Reached.{Reached}
-use Rattle.finding.specs.Finding.{nothing_reached, RowRoom, FindRoom, Stands, entry_command, entry_inside, entry_names, is_shape, is_shape_entry, Adds, StepIs, FoundAs}
+use Rattle.finding.specs.Finding.{nothing_reached, RowRoom, FindRoom, Stands, entry_command, entry_inside, entry_names, is_shape, is_shape_entry, Adds, AnswerIs, FoundAs}
 use Rattle.finding.proofs.Findings.{few_references, rules_count}
-use Rattle.reader.specs.Parsing.{refused_as, end_fault, EndRoom, EndedAs, ParsedAs}
+use Rattle.reader.specs.Parsing.{Parsed, refused_as, end_fault, EndRoom, EndedAs, ParsedAs}
 use Rattle.reader.specs.Storing.{StoredWithin, StoreRoom, Stored}
 use Rattle.reader.proofs.Unknown.{length_named}
+use Rattle.std.specs.Prelude.{Result, Ok, Err}
 
 -- ---- One step of the walk
 
@@ -117,24 +117,24 @@ fault_none s end p h =
 
 -- the three answers at the end of the input
 module _ {bytes end : ℕ} {reached : Reached} {fresh named rows : List ℕ} where
-  pub ended_after : end < bytes → {r : Parsed} → r ≡ refused_as 8 end → EndedAs bytes end reached fresh named rows r rows
+  pub ended_after : end < bytes → EndedAs bytes end reached fresh named rows (refused_as 8 end) rows
   unfolding end_fault
-  ended_after h e = rw e (record { refusal_is = rw (lt-ltb end bytes h); long = refl; refused = λ n. refl; expanded = λ (z : ◌≡◌ {A = ℕ} 8 0). absurd (omega arith) })
+  ended_after h = record { refusal_is = rw (lt-ltb end bytes h); long = refl; refused = λ n. refl; expanded = λ (z : ◌≡◌ {A = ℕ} 8 0). absurd (omega arith) }
 
   module _ (h : bytes ≤ end) {u : Refusal} (q : u ≡ unknown_shape reached.counts.shapes (named_in named reached.noted)) where
-    pub ended_unknown : (u.number ≡ 0 → ⊥) → {r : Parsed} → r ≡ refused_as u.number u.place → EndedAs bytes end reached fresh named rows r rows
+    pub ended_unknown : (u.number ≡ 0 → ⊥) → EndedAs bytes end reached fresh named rows (refused_as u.number u.place) rows
     unfolding end_fault
-    ended_unknown n e = rw e (record { refusal_is = q ∙ rw (le-ltb end bytes h); long = refl; refused = λ n. refl; expanded = λ z. absurd (n z) })
+    ended_unknown n = record { refusal_is = q ∙ rw (le-ltb end bytes h); long = refl; refused = λ n. refl; expanded = λ z. absurd (n z) }
 
     pub ended_well : u.number ≡ 0 → {counts' : Counts} {rows' : List ℕ} → ExpandedAs reached.counts fresh reached.fresh rows counts' rows'
-        → {refusal : Refusal} → refusal ≡ no_refusal → EndedAs bytes end reached fresh named rows (record { refusal = refusal; counts = counts' }) rows'
+        → EndedAs bytes end reached fresh named rows (record { refusal = no_refusal; counts = counts' }) rows'
     unfolding end_fault
-    ended_well z x e = rw e (record {
+    ended_well z x = record {
       refusal_is = rw (le-ltb end bytes h) (sym (unknown_none reached.counts.shapes (named_in named reached.noted) (rw q at z)));
       long = x.long;
       refused = λ n. absurd (n refl);
       expanded = λ n. x;
-    })
+    }
 
 -- the end command adds nothing
 end_nothing : (n : ℕ) (e : Entry) → is_end_entry e ≡ true → (entry_inside n e ≡ []) × (entry_names e ≡ [])
@@ -267,10 +267,9 @@ refused_in : (n at : ℕ) (s rows : List ℕ) → Full rows → refused n at ≡
 unfolding refused outcome
 refused_in n at s rows full e = parsed_as full (rw (none_in rows, ← e, expanded_start))
 
-pub heading_refused : {s rows : List ℕ} {h : Heading} {n : ℕ} → Full rows → h ≡ heading_of s → h ≡ HeadingRefused n → {m : ℕ} → m ≡ heading_number h
-    → {r : Parsed} → r ≡ refused_as m 0 → ParsedAs s r rows
+pub heading_refused : {s rows : List ℕ} {n : ℕ} → Full rows → HeadingRefused n ≡ heading_of s → ParsedAs s (refused_as n 0) rows
 unfolding walked walked_from
-heading_refused {s} {rows} {n = n} full e f i z = rw (z, i, f) (refused_in n 0 s rows full (rw (← e, f)))
+heading_refused {s} {rows} {n} full e = refused_in n 0 s rows full (rw (← e))
 
 module _ {s : List ℕ} {at : ℕ} {reached : Reached} {rows fresh named : List ℕ} (g : Going s at reached rows fresh named) where
   counts_are : counts_so_far g.progress ≡ reached.counts
@@ -302,8 +301,8 @@ module _ {s : List ℕ} {at : ℕ} {reached : Reached} {rows fresh named : List 
       let k = g.sound.kept in
       rw (← counts_are) (record { edges = k.edges.limited; paths = k.paths.limited; shapes = omega (arith, few_kept, length_expansion g.progress.written); targets = k.targets.limited })
 
-  pub going_over : length s ≤ at → {r : Parsed} → r ≡ refused_as 3 at → ParsedAs s r rows
-  going_over h e = rw e (refused_in 3 at s rows g.full (sym (walk_over s at g.progress g.fuel h) ∙ g.same))
+  pub going_over : length s ≤ at → ParsedAs s (refused_as 3 at) rows
+  going_over h = refused_in 3 at s rows g.full (sym (walk_over s at g.progress g.fuel h) ∙ g.same)
 
   -- the fuel that is left after one step
   left : at < length s → (f : ℕ) × (g.fuel ≡ suc f)
@@ -320,22 +319,32 @@ module _ {s : List ℕ} {at : ℕ} {reached : Reached} {rows fresh named : List 
     notes = omega (arith, shapes_are, few_kept, g.few, noted_is, g.sound.kept.targets, g.named_long);
   }
 
-  module _ (h : at < length s) {finding : Finding} {fresh' named' : List ℕ} (f : FoundAs (take (length s - at) (drop at s)) at reached rows fresh named finding fresh' named') where
-    pub step_is : {step : Step} → finding.step ≡ step → StepIs (found_at g.progress (drop at s)) at reached fresh named step finding.fresh finding.noted fresh' named'
+  module _ (h : at < length s) {answer : Result Finding Faulted} {fresh' named' : List ℕ} (f : FoundAs (take (length s - at) (drop at s)) at reached rows fresh named answer fresh' named') where
+    answer_is : AnswerIs (found_at g.progress (drop at s)) at reached fresh named answer fresh' named'
     unfolding found_at
-    step_is e = rw (← e, ← take_rest s at) (rw edges_are at (f.found.is g.progress stands))
+    answer_is = rw (← take_rest s at) (rw edges_are at (f.found.is g.progress stands))
 
-    pub going_refused : {step : Step} {number m : ℕ} → finding.step ≡ step → step ≡ Refused number → m ≡ number_of step → {r : Parsed} → r ≡ refused_as m at → ParsedAs s r rows
-    unfolding StepIs stepped
-    going_refused {number = number} b e q z =
-        let i = step_is (b ∙ e) in
+    pub going_refused : {fault : Faulted} → answer ≡ Err fault → ParsedAs s (refused_as (fault_number fault) at) rows
+    unfolding AnswerIs stepped
+    going_refused {fault} e =
+        let number = fault_number fault in
+        let i : found_at g.progress (drop at s) ≡ Fault number = rw e at answer_is in
         let w = walk_step s at g.progress (left h).0 h (Fault number) i in
-        rw (z, q, e) (refused_in number at s rows g.full (sym w ∙ rw (← (left h).1) g.same))
+        refused_in number at s rows g.full (sym w ∙ rw (← (left h).1) g.same)
 
-    module _ {step : Step} (b : finding.step ≡ step) {command : Command} {row : Row} {taken : Taken} (e : step ≡ Is command row taken) where
+    module _ {finding : Finding} (e : answer ≡ Ok finding) where
+      abbrev command : Command
+      command = finding.accepted.command
+
+      abbrev row : Row
+      row = finding.accepted.row
+
+      abbrev taken : Taken
+      taken = finding.accepted.taken
+
       adds : Adds (found_at g.progress (drop at s)) at reached fresh named command row taken finding.fresh finding.noted fresh' named'
-      unfolding StepIs
-      adds = step_is (b ∙ e)
+      unfolding AnswerIs
+      adds = rw e at answer_is
 
       onward : stepped (walk (left h).0 s) s at g.progress (Good adds.entry taken) ≡ walked s
       onward = sym (walk_step s at g.progress (left h).0 h (Good adds.entry taken) adds.is) ∙ rw (← (left h).1) g.same
@@ -467,15 +476,12 @@ module _ {s : List ℕ} {at : ℕ} {reached : Reached} {rows fresh named : List 
 
 -- ---- What reading answers
 
-pub answer : {s : List ℕ} {r : Parsed} {rows : List ℕ} → ParsedAs s r rows
-    → record {
-      number = r.refusal.number;
-      place = r.refusal.place;
-      nodes = r.counts.nodes;
-      edges = r.counts.edges;
-      paths = r.counts.paths;
-      shapes = r.counts.shapes;
-      targets = r.counts.targets;
-    } ≡ reading s
-unfolding reading
-answer {s} {r} {rows} p = rw (← p.comes_to, counts_in r.counts rows)
+module _ {s rows : List ℕ} where
+  pub read_as : {counts : Counts} → ParsedAs s (record { refusal = no_refusal; counts = counts }) rows → reading_of counts ≡ reading s
+  unfolding reading
+  read_as {counts} p = rw (← p.comes_to, counts_in counts rows)
+
+  pub refused_read : {n at : ℕ} → ParsedAs s (refused_as n at) rows
+      → record { number = n; place = at; nodes = 0; edges = 0; paths = 0; shapes = 0; targets = 0 } ≡ reading s
+  unfolding reading
+  refused_read {n} {at} p = rw (← p.comes_to, counts_in (refused_as n at).counts rows)

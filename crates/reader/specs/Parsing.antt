@@ -1,12 +1,18 @@
 -- What reading into the table of rows leaves. No part of document 01. Assumes nothing.
-use Rattle.std.specs.Prelude.{ℕ, ◌*◌, ◌≤◌, ◌≡◌, cond, List, length, ltb}
-use Rattle.cases.specs.declared.answers.Parsed.{Parsed}
-use Rattle.cases.specs.Refusals.{Refusal}
+use Rattle.std.specs.Prelude.{ℕ, ◌*◌, ◌≤◌, ◌≡◌, cond, List, length, Result, Ok, Err, ltb}
+use Rattle.cases.specs.declared.counts.Counts.{Counts}
+use Rattle.cases.specs.declared.refusals.Refused.{Refused}
+use Rattle.cases.specs.Refusals.{fault_number, Refusal, no_refusal}
 use Rattle.cases.specs.Reading.{Note, Outcome, outcome, unknown_shape}
 use Rattle.cases.specs.Rows.{case_in, CaseIn}
 use Rattle.parts.specs.Expanding.{ExpandRoom, ExpandedAs}
 use Rattle.parts.specs.Tables.{named_in}
 use Rattle.finding.specs.declared.commands.Reached.{Reached}
+
+-- what reading comes to, beside the table of rows: the counts are 0 on a refusal
+pub record Parsed : Type 0 where
+  pub refusal : Refusal
+  pub counts : Counts
 
 abbrev pub refused_as : ℕ → ℕ → Parsed
 refused_as number place =
@@ -14,6 +20,11 @@ refused_as number place =
       refusal = record { number = number; place = place };
       counts = record { nodes = 0; edges = 0; paths = 0; shapes = 0; targets = 0 };
     }
+
+-- what the code answers for it
+abbrev pub parsed_in : Result Counts Refused → Parsed
+parsed_in (Ok counts) = record { refusal = no_refusal; counts = counts }
+parsed_in (Err r) = refused_as (fault_number r.fault) r.place
 
 -- the end of the input: 8, or 9
 unfoldable pub end_fault : ℕ → ℕ → ℕ → List Note → Refusal

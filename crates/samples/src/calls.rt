@@ -1,7 +1,7 @@
-// Each call: what a line gives it, and the numbers that it answers.
-use crate::text::{Number, before, behind, decimal, fill, table_length};
+// Each call: what a line gives it, and the numbers that it answers. `None` where the line is not understood; nothing is printed then.
+use crate::text::{Table, cut, decimal};
 use adding::fewest::fewest_edges;
-use check::same;
+use judge::checking::check;
 use judge::ranking::rank;
 use judge::solving::solve;
 use judge::supporting::check_supported;
@@ -19,240 +19,142 @@ pub fn print(text: &[u8]) {
     io::write_all(OUT, text);
 }
 
-fn number(n: usize) {
-    print(b" ");
-    io::print_decimal(OUT, n as u64);
-}
-
-// In place of an answer.
-pub fn misread() {
-    print(b" not understood");
+fn print_numbers(numbers: &[usize]) {
+    for n in numbers {
+        print(b" ");
+        io::print_decimal(OUT, *n as u64);
+    }
 }
 
 // Number, place, nodes, edges, paths, shapes, targets, and the length of the case.
 fn answer_read(case: &[u8]) {
     let r = read(case);
-    number(r.number);
-    number(r.place);
-    number(r.nodes);
-    number(r.edges);
-    number(r.paths);
-    number(r.shapes);
-    number(r.targets);
+    print_numbers(&[
+        r.number, r.place, r.nodes, r.edges, r.paths, r.shapes, r.targets,
+    ]);
     print(b",");
-    number(case.len());
+    print_numbers(&[case.len()]);
     print(b" bytes");
 }
 
-// Number, place, rounds, valid, undetermined, sure, open, impossible; and where it is solved, what checking answers of the tables.
-fn answer_solve(
-    title: &[u8],
-    case: &[u8],
-    values: &mut [u8],
-    levels: &mut [u8],
-    verdicts: &mut [u8],
-) {
+// Solves into tables of the lengths that are given: number, place, rounds, valid, undetermined, sure, open, impossible;
+// and where it is solved, what checking answers of the tables.
+fn answer_solve(title: &[u8], case: &[u8], given: &[u8]) -> Option<()> {
+    let mut values = [0u8; 64];
+    let mut levels = [0u8; 64];
+    let mut verdicts = [0u8; 64];
+    let (_, given) = cut(given, b' ');
+    let (a, given) = cut(given, b' ');
+    let (b, c) = cut(given, b' ');
+    let values = values.get_mut(..decimal(a)?)?;
+    let levels = levels.get_mut(..decimal(b)?)?;
+    let verdicts = verdicts.get_mut(..decimal(c)?)?;
     let r = solve(case, values, levels, verdicts);
-    number(r.number);
-    number(r.place);
-    number(r.rounds);
-    number(r.valid);
-    number(r.undetermined);
-    number(r.sure);
-    number(r.open);
-    number(r.impossible);
+    print_numbers(&[
+        r.number,
+        r.place,
+        r.rounds,
+        r.valid,
+        r.undetermined,
+        r.sure,
+        r.open,
+        r.impossible,
+    ]);
     if r.number == 0 {
         print(b"\n");
         print(title);
         print(b" solved:");
         answer_check(case, values, levels);
     }
-}
-
-// Solves into tables of the lengths that are given.
-fn solve_given(title: &[u8], case: &[u8], given: &[u8]) {
-    let mut values = [0u8; 64];
-    let mut levels = [0u8; 64];
-    let mut verdicts = [0u8; 64];
-    let first = behind(given, b' ');
-    let second = behind(first, b' ');
-    let a = table_length(before(first, b' '));
-    let b = table_length(before(second, b' '));
-    let c = table_length(behind(second, b' '));
-    if a > 64 {
-        misread();
-    } else if b > 64 {
-        misread();
-    } else if c > 64 {
-        misread();
-    } else {
-        answer_solve(
-            title,
-            case,
-            &mut values[0..a],
-            &mut levels[0..b],
-            &mut verdicts[0..c],
-        );
-    }
+    Some(())
 }
 
 // Number, place, undetermined, valid targets.
 fn answer_check(case: &[u8], values: &[u8], levels: &[u8]) {
-    let r = judge::checking::check(case, values, levels);
-    number(r.number);
-    number(r.place);
-    number(r.undetermined);
-    number(r.valid);
-}
-
-// Checks the first so many values and levels.
-fn check_first(case: &[u8], values: &[u8; 8192], n: usize, levels: &[u8; 8192], m: usize) {
-    let values = &values[..];
-    let levels = &levels[..];
-    if n > values.len() {
-        misread();
-    } else if m > levels.len() {
-        misread();
-    } else {
-        answer_check(case, &values[0..n], &levels[0..m]);
-    }
+    let r = check(case, values, levels);
+    print_numbers(&[r.number, r.place, r.undetermined, r.valid]);
 }
 
 // Checks the values and the levels that are given.
-fn check_given(case: &[u8], given: &[u8]) {
-    let mut values = [0u8; 8192];
-    let mut levels = [0u8; 8192];
-    let n = fill(before(given, b'/'), &mut values);
-    let m = fill(behind(given, b'/'), &mut levels);
-    check_first(case, &values, n, &levels, m);
+fn check_given(case: &[u8], given: &[u8]) -> Option<()> {
+    let (values, levels) = cut(given, b'/');
+    let values = Table::read(values)?;
+    let levels = Table::read(levels)?;
+    answer_check(case, values.as_slice(), levels.as_slice());
+    Some(())
 }
 
-// Number, place, undetermined, valid targets, code.
-fn answer_old(case: &[u8], values: &[u8; 8192], n: usize) {
-    let values = &values[..];
-    if n > values.len() {
-        misread();
-        return;
-    }
-    let r = check_supported(case, &values[0..n]);
-    number(r.number);
-    number(r.place);
-    number(r.undetermined);
-    number(r.valid);
-    number(r.code);
-}
-
-// Checks the values that are given under the old code.
-fn check_old(case: &[u8], given: &[u8]) {
-    let mut values = [0u8; 8192];
-    let n = fill(given, &mut values);
-    answer_old(case, &values, n);
+// Checks the values that are given under the old code: number, place, undetermined, valid targets, code.
+fn answer_old(case: &[u8], given: &[u8]) -> Option<()> {
+    let r = check_supported(case, Table::read(given)?.as_slice());
+    print_numbers(&[r.number, r.place, r.undetermined, r.valid, r.code]);
+    Some(())
 }
 
 // Number, place, strata.
-fn answer_rank(case: &[u8], length: usize) {
+fn answer_rank(case: &[u8], length: usize) -> Option<()> {
     let mut strata = [0u8; 64];
-    if length > 64 {
-        misread();
-        return;
-    }
-    let r = rank(case, &mut strata[0..length]);
-    number(r.number);
-    number(r.place);
-    number(r.strata);
+    let r = rank(case, strata.get_mut(..length)?);
+    print_numbers(&[r.number, r.place, r.strata]);
+    Some(())
 }
 
 // Number, place, valid, undetermined.
 fn answer_totals(case: &[u8], node: usize) {
     let r = node_totals(case, node);
-    number(r.number);
-    number(r.place);
-    number(r.valid);
-    number(r.undetermined);
+    print_numbers(&[r.number, r.place, r.valid, r.undetermined]);
 }
 
-// Number, place, selection.
-fn answer_fewest(case: &[u8], target: usize, candidates: &[u8; 8192], n: usize) {
-    let candidates = &candidates[..];
-    if n > candidates.len() {
-        misread();
-        return;
-    }
-    let r = fewest_edges(case, target, &candidates[0..n]);
-    number(r.number);
-    number(r.place);
-    number(r.selection);
-}
-
-// The target's number, and behind it the candidates that are given.
-fn fewest_given(case: &[u8], given: &[u8]) {
-    let mut candidates = [0u8; 8192];
-    let first = behind(given, b' ');
-    let Number::Is(target) = decimal(before(first, b' ')) else {
-        misread();
-        return;
-    };
-    let n = fill(behind(first, b' '), &mut candidates);
-    answer_fewest(case, target, &candidates, n);
+// The target's number, and behind it the candidates that are given: number, place, selection.
+fn answer_fewest(case: &[u8], given: &[u8]) -> Option<()> {
+    let (_, given) = cut(given, b' ');
+    let (target, candidates) = cut(given, b' ');
+    let r = fewest_edges(case, decimal(target)?, Table::read(candidates)?.as_slice());
+    print_numbers(&[r.number, r.place, r.selection]);
+    Some(())
 }
 
 // Number, place, reply.
 fn answer_ask(u: Unfinished, pair: usize) {
     let r = ask(u, pair);
-    number(r.number);
-    number(r.place);
-    number(r.reply);
+    print_numbers(&[r.number, r.place, r.reply]);
 }
 
 // Begins a solve and advances it twice: reading's number and place, the replies about a pair, and whether the end is reached.
 fn answer_course(case: &[u8], pair: usize) {
     let begun = begin(case);
-    number(begun.number);
-    number(begun.place);
+    print_numbers(&[begun.number, begun.place]);
     print(b"\n  begun:");
     answer_ask(begun.unfinished, pair);
     let one = advance(begun.unfinished);
     print(b"\n");
-    number(one.over);
+    print_numbers(&[one.over]);
     print(b" after one round:");
     answer_ask(one.unfinished, pair);
     let two = advance(one.unfinished);
     print(b"\n");
-    number(two.over);
+    print_numbers(&[two.over]);
     print(b" after two:");
     answer_ask(two.unfinished, pair);
 }
 
-// The calls that are given a number.
-fn answer_numbered(call: &[u8], case: &[u8], given: &[u8]) {
-    let Number::Is(n) = decimal(behind(given, b' ')) else {
-        misread();
-        return;
-    };
-    if same(call, b"rank") {
-        answer_rank(case, n);
-    } else if same(call, b"totals") {
-        answer_totals(case, n);
-    } else if same(call, b"course") {
-        answer_course(case, n);
-    } else {
-        misread();
-    }
+// The number behind the blank.
+fn given_number(given: &[u8]) -> Option<usize> {
+    decimal(cut(given, b' ').1)
 }
 
 // The call by its name.
-pub fn answer(call: &[u8], title: &[u8], case: &[u8], given: &[u8]) {
-    if same(call, b"read") {
-        answer_read(case);
-    } else if same(call, b"solve") {
-        solve_given(title, case, given);
-    } else if same(call, b"check") {
-        check_given(case, given);
-    } else if same(call, b"old") {
-        check_old(case, given);
-    } else if same(call, b"fewest") {
-        fewest_given(case, given);
-    } else {
-        answer_numbered(call, case, given);
+pub fn answer(call: &[u8], title: &[u8], case: &[u8], given: &[u8]) -> Option<()> {
+    match call {
+        b"read" => answer_read(case),
+        b"solve" => answer_solve(title, case, given)?,
+        b"check" => check_given(case, given)?,
+        b"old" => answer_old(case, given)?,
+        b"fewest" => answer_fewest(case, given)?,
+        b"rank" => answer_rank(case, given_number(given)?)?,
+        b"totals" => answer_totals(case, given_number(given)?),
+        b"course" => answer_course(case, given_number(given)?),
+        _ => return None,
     }
+    Some(())
 }

@@ -4,47 +4,33 @@
 mod calls;
 mod text;
 
-use calls::{answer, misread, print};
-use check::same;
-use text::{NONE, before, behind, fill};
+use calls::{answer, print};
+use text::{Table, cut};
 
 // standard input
 const IN: i32 = 0;
 
-// The length of the case: a line that reads sets it anew.
-fn next_case(line: &[u8], case: &mut [u8; 8192], n: usize) -> usize {
-    if same(before(line, b' '), b"read") {
-        return fill(behind(line, b':'), case);
-    }
-    n
-}
-
-// Answers the call of a line on the first n bytes of the case.
-fn answer_line(line: &[u8], case: &[u8; 8192], n: usize) {
-    let case = &case[..];
-    let call = before(line, b' ');
-    if same(call, b"#") {
-        return;
-    }
-    let title = before(line, b':');
-    print(title);
-    print(b":");
-    if n > case.len() {
-        misread();
-    } else {
-        answer(call, title, &case[0..n], behind(line, b':'));
-    }
-    print(b"\n");
-}
-
-// Line by line, with no case at first.
+// Line by line, with no case at first: a line that reads sets it anew.
 fn run(input: &[u8]) {
-    let mut case = [0u8; 8192];
-    let mut n = NONE;
+    let mut case = None;
     for ended in input.split_inclusive(|b| *b == b'\n') {
-        let line = before(ended, b'\n');
-        n = next_case(line, &mut case, n);
-        answer_line(line, &case, n);
+        let (line, _) = cut(ended, b'\n');
+        let (call, _) = cut(line, b' ');
+        let (title, given) = cut(line, b':');
+        match call {
+            b"#" => continue,
+            b"read" => case = Table::read(given),
+            _ => {}
+        }
+        print(title);
+        print(b":");
+        let answered = case
+            .as_ref()
+            .and_then(|case| answer(call, title, case.as_slice(), given));
+        if answered.is_none() {
+            print(b" not understood");
+        }
+        print(b"\n");
     }
 }
 

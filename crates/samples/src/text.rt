@@ -1,146 +1,95 @@
 // Reading a line: its words, numbers in decimal, and tables of bytes in hexadecimal.
-ghost use Rattle.std.specs.Prelude.{◌≡◌, ℕ, ◌-◌, ◌<◌, ◌≤◌, ◌≢◌, length, slice_index};
+ghost use Rattle.std.specs.Prelude.{◌<◌, ◌≤◌, IfSome};
+ghost use Rattle.samples.specs.declared.text.TheConstants.{ROOM};
 
-// The bytes that a table has room for, and a length that no table has: what stands for a text that is no table.
+// The bytes that a table has room for.
 const ROOM: usize = 8192;
 
-pub const NONE: usize = 8193;
-
-// A number, or that the text is none.
-#[derive(Clone, Copy)]
-pub enum Number {
-    Is(usize),
-    Unread,
-}
-
-// Where the first such mark stands, the text's length where there is none.
-fn find(text: &[u8], mark: u8) -> usize
-    ensures in_bounds { result ≤ length text.now }
-    ensures none_before { (k : ℕ) → k < result → slice_index text.now k ≢ mark }
-    ensures mark_there { result < length text.now → slice_index text.now result ≡ mark }
-{
-    for (i, b) in text.iter().enumerate() {
-        if *b == mark {
-            return i;
-        }
+// What stands before the first such mark and behind it: all and nothing where there is none.
+pub fn cut(text: &[u8], mark: u8) -> (&[u8], &[u8]) {
+    match text.iter().position(|b| *b == mark) {
+        Some(at) => (&text[..at], &text[at + 1..]),
+        None => (text, &[]),
     }
-    text.len()
-}
-
-// What stands before the first such mark, all where there is none.
-pub fn before(text: &[u8], mark: u8) -> &[u8] {
-    &text[..find(text, mark)]
-}
-
-// What stands behind it, nothing where there is none.
-pub fn behind(text: &[u8], mark: u8) -> &[u8]
-    ensures { length result.now ≤ length text.now - 1 }
-{
-    let end = find(text, mark);
-    if end == text.len() {
-        return &text[end..];
-    }
-    &text[end + 1..]
-}
-
-// The value of a digit, 16 for every other byte.
-fn digit(b: u8) -> u8 {
-    match b {
-        b'0'..=b'9' => b - b'0',
-        b'a'..=b'f' => b - b'a' + 10,
-        _ => 16,
-    }
-}
-
-// The number with one digit more.
-fn longer(number: Number, b: u8) -> Number {
-    let Number::Is(n) = number else {
-        return Number::Unread;
-    };
-    let d = digit(b);
-    if d > 9 {
-        return Number::Unread;
-    }
-    if n > (0xffff_ffff_ffff_ffff - d as usize) / 10 {
-        return Number::Unread;
-    }
-    Number::Is(n * 10 + d as usize)
 }
 
 // A number in decimal.
-pub fn decimal(text: &[u8]) -> Number {
-    if text.len() == 0 {
-        return Number::Unread;
+pub fn decimal(text: &[u8]) -> Option<usize> {
+    if text.is_empty() {
+        return None;
     }
-    let mut number = Number::Is(0);
-    for b in text {
-        number = longer(number, *b);
-    }
-    number
+    text.iter().try_fold(0usize, |n, b| {
+        let digit = char::from(*b).to_digit(10)?;
+        n.checked_mul(10)?.checked_add(digit as usize)
+    })
 }
 
-// The number, or a length that no table has.
-pub fn table_length(text: &[u8]) -> usize {
-    match decimal(text) {
-        Number::Is(n) => n,
-        Number::Unread => NONE,
+// The value of a digit in hexadecimal.
+fn digit(b: u8) -> Option<u8>
+    ensures { IfSome result (λ d. d < 16) }
+{
+    match b {
+        b'0'..=b'9' => Some(b - b'0'),
+        b'a'..=b'f' => Some(b - b'a' + 10),
+        _ => None,
     }
 }
 
-// A byte by its two digits.
-fn put_byte(table: &mut [u8; 8192], n: usize, high: u8, low: u8) -> usize {
-    if high > 15 {
-        return NONE;
-    }
-    if low > 15 {
-        return NONE;
-    }
-    if n >= ROOM {
-        return NONE;
-    }
-    table[n] = high * 16 + low;
-    n + 1
+// A table of bytes.
+#[derive(Drop)]
+pub struct Table {
+    bytes: [u8; ROOM],
+    len: usize,
+    ghost in_room: { len ≤ ROOM },
 }
 
-// Bytes in a row.
-fn put_bytes(text: &[u8], table: &mut [u8; 8192], n: usize) -> usize {
-    if text.len() % 2 == 1 {
-        return NONE;
+impl Table {
+    // The table that a text's words make.
+    pub fn read(text: &[u8]) -> Option<Table> {
+        let mut table = Table {
+            bytes: [0; ROOM],
+            len: 0,
+        };
+        for word in text.split(|b| *b == b' ') {
+            table.push_word(word)?;
+        }
+        Some(table)
     }
-    let mut end = n;
-    for pair in text.chunks_exact(2) {
-        end = put_byte(table, end, digit(pair[0]), digit(pair[1]));
-    }
-    end
-}
 
-// These bytes so many times.
-fn repeat(times: usize, text: &[u8], table: &mut [u8; 8192], n: usize) -> usize {
-    let mut end = n;
-    for _ in 0..times {
-        end = put_bytes(text, table, end);
+    pub fn as_slice(&self) -> &[u8] {
+        &self.bytes[..self.len]
     }
-    end
-}
 
-// A word: bytes, or a number, an x, and the bytes that are put so many times.
-fn put_word(word: &[u8], table: &mut [u8; 8192], n: usize) -> usize {
-    let bytes = behind(word, b'x');
-    if bytes.len() == 0 {
-        return put_bytes(word, table, n);
+    // A word: bytes, or a number, an x, and the bytes that are put so many times.
+    fn push_word(&mut self, word: &[u8]) -> Option<()> {
+        let (times, bytes) = cut(word, b'x');
+        if bytes.is_empty() {
+            return self.push_bytes(word);
+        }
+        for _ in 0..decimal(times)? {
+            self.push_bytes(bytes)?;
+        }
+        Some(())
     }
-    let times = table_length(before(word, b'x'));
-    if times > ROOM {
-        return NONE;
-    }
-    repeat(times, bytes, table, n)
-}
 
-// Puts all words of a text into the table, and answers how many bytes there are.
-pub fn fill(text: &[u8], table: &mut [u8; 8192]) -> usize {
-    let mut n = 0;
-    for word in text.split(|b| *b == b' ') {
-        n = put_word(word, table, n);
+    // Bytes in a row.
+    fn push_bytes(&mut self, text: &[u8]) -> Option<()> {
+        let (pairs, odd) = text.as_chunks::<2>();
+        if !odd.is_empty() {
+            return None;
+        }
+        for [high, low] in pairs {
+            self.push(digit(*high)? * 16 + digit(*low)?)?;
+        }
+        Some(())
     }
-    n
+
+    fn push(&mut self, b: u8) -> Option<()> {
+        if self.len == ROOM {
+            return None;
+        }
+        self.bytes[self.len] = b;
+        self.len += 1;
+        Some(())
+    }
 }

@@ -1,36 +1,23 @@
 -- The value that a byte of a state stands for, and what is certain of a pair, by its value and whether the end is reached. Assumes nothing.
 use Prim.Native.Nat.{ℕ, ◌<◌, ◌≤◌, min}
 use native.Mathlib.Omega.{arith}
-use mathlib.Core.Path.{◌≡◌, sym, ap, ◌∙◌}
+use mathlib.Core.Path.{◌≡◌}
 use mathlib.Core.Bool.{Bool, true, false}
 use lib.Dec.{leb}
 use borrow.Author.Tests.{le-leb, lt-leb, leb-true, leb-false, eq-eqb, ne_eqb}
 use Rattle.fixpoint.proofs.Lists.{by_test}
-use Rattle.semantics.specs.Values.{byte_says}
-use Rattle.semantics.specs.declared.value.Value.{Value}
-use Rattle.semantics.specs.declared.value.Said.{Said}
-use Rattle.semantics.specs.declared.value.Said.TheVariants.{Is, Above}
+use Rattle.semantics.specs.Values.{byte_says, said_value_or_fault}
+use Rattle.std.specs.Result.{result_unwrap_or}
 use Rattle.semantics.specs.Unfinished.{certainty}
 use Rattle.semantics.specs.declared.ongoing.Certainty.TheVariants.{Impossible, Open, Sure, NotYet}
 
 -- a byte that says a value stands for it, one that says none for 2
-abbrev stands : Said → ℕ
-stands (Is v) = v.0
-stands Above = 2
-
-held : (b : ℕ) → stands (byte_says b) ≡ min b 2
+pub held : (b : ℕ) → (result_unwrap_or (said_value_or_fault (byte_says b)) (record { 0 = 2 })).0 ≡ min b 2
 unfolding byte_says
 held b =
     by_test (leb b 2)
     (λ h. let few = leb-true b 2 h in rw h (omega arith))
     (λ h. let more = leb-false b 2 h in rw h (omega arith))
-
-module _ (b : ℕ) {said : Said} (e : said ≡ byte_says b) where
-  pub held_said : {v : Value} → said ≡ Is v → v.0 ≡ min b 2
-  held_said f = sym (ap stands f) ∙ ap stands e ∙ held b
-
-  pub held_above : said ≡ Above → 2 ≡ min b 2
-  held_above f = sym (ap stands f) ∙ ap stands e ∙ held b
 
 module _ (v : ℕ) (over : Bool) where
   pub sure_said : 2 ≤ v → Sure ≡ certainty v over

@@ -8,6 +8,7 @@ use Rattle.semantics.specs.declared.answers.Ranked.{Ranked}
 use Rattle.semantics.specs.declared.answers.Fewest.{Fewest}
 use Rattle.semantics.specs.declared.answers.Tally.{Tally}
 use Rattle.semantics.specs.declared.answers.Totals.{Totals}
+use Rattle.semantics.specs.declared.ongoing.Reply.{Reply}
 use Rattle.semantics.specs.Operations.{tally}
 
 abbrev pub refused_solution : Refusal → Solution
@@ -18,6 +19,9 @@ refused_checked r = record { number = r.number; place = r.place; undetermined = 
 
 abbrev pub refused_totals : Refusal → Totals
 refused_totals r = record { number = r.number; place = r.place; valid = 0; undetermined = 0 }
+
+abbrev pub refused_reply : Refusal → Reply
+refused_reply r = record { number = r.number; place = r.place; reply = 0 }
 
 -- ranking's, for a refusal or none and a number of strata
 abbrev pub ranked_by : Refusal → ℕ → Ranked

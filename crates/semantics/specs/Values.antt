@@ -1,16 +1,21 @@
 -- Pairs, the three values, and the value that a rule gives. Document 01, "Values". Assumes nothing.
-use Rattle.std.specs.Prelude.{ℕ, ◌+◌, ◌-◌, ◌*◌, ◌/◌, ◌%◌, min, max, Bool, cond, ◌&&◌, List, map, length, get_or, eqb, leb}
+use Rattle.std.specs.Prelude.{ℕ, ◌+◌, ◌-◌, ◌*◌, ◌/◌, ◌%◌, min, max, Bool, cond, ◌&&◌, List, map, length, get_or, Result, Ok, Err, eqb, leb}
 use Rattle.fixpoint.specs.Lists.{up_to, all, smallest, nth_largest}
 use Rattle.cases.specs.Case.{Case, shape_rule}
 use Rattle.cases.specs.declared.command.ShapeRule.{ShapeRule}
 use Rattle.cases.specs.declared.command.ShapeRule.TheVariants.{Top, Node, And, Or, Not, Same, All, AtLeast}
-use Rattle.semantics.specs.declared.value.Said.{Said}
-use Rattle.semantics.specs.declared.value.Said.TheVariants.{Is, Above}
+use Rattle.cases.specs.declared.refusals.Fault.{Fault}
+use Rattle.cases.specs.declared.refusals.Fault.TheVariants.{NoValue}
+use Rattle.semantics.specs.declared.value.Value.{Value}
 use Rattle.semantics.specs.Paths.{live, fillers, same_fillers}
 
 -- ---- "A value is 0 violated, 1 undetermined or 2 valid."
 
 -- what a byte says: one of the three values, or none where it is above 2
+pub data Said : Type 0 where
+  Is : Value → Said
+  Above : Said
+
 unfoldable pub byte_says : ℕ → Said
 byte_says b = cond (leb b 2) (Is (record { 0 = b })) Above
 
@@ -22,6 +27,11 @@ said_number Above = 13
 abbrev pub said_value : Said → ℕ
 said_value (Is v) = v.0
 said_value Above = 0
+
+-- what the code answers for it
+abbrev pub said_value_or_fault : Said → Result Value Fault
+said_value_or_fault (Is v) = Ok v
+said_value_or_fault Above = Err NoValue
 
 -- ---- "A pair is a shape and a node, in order shape × nodes + node; the pair count is shapes × nodes."
 

@@ -2,9 +2,10 @@
 // refusal, 0 for none, then the counts or the selection, 0 on a refusal; the code of the old check is no count.
 ghost use Rattle.std.specs.Prelude.{◌≡◌};
 ghost use Rattle.semantics.specs.OldCode.{with_old_code};
+ghost use Rattle.cases.specs.Refusals.{no_refusal, refusal_says};
 ghost use Rattle.semantics.specs.Answered.{refused_solution, refused_checked, refused_totals, ranked_by, fewest_by, solved_with};
 
-use cases::answers::Refusal;
+use cases::refusals::Refused;
 
 // How many pairs are valid and undetermined, and how many targets sure, open and impossible.
 #[derive(Clone, Copy)]
@@ -29,13 +30,13 @@ pub struct Solution {
     pub impossible: usize,
 }
 
-impl Solution {
-    pub fn refused(refusal: Refusal) -> Solution
-        ensures { result ≡ refused_solution refusal }
-    {
+impl From<Refused> for Solution {
+    ghost from_gives = { λ refused answer. answer ≡ refused_solution (refusal_says refused) };
+
+    fn from(refused: Refused) -> Solution {
         Solution {
-            number: refusal.number,
-            place: refusal.place,
+            number: refused.fault.number(),
+            place: refused.place,
             rounds: 0,
             valid: 0,
             undetermined: 0,
@@ -44,7 +45,9 @@ impl Solution {
             impossible: 0,
         }
     }
+}
 
+impl Solution {
     pub fn solved(rounds: usize, tally: Tally) -> Solution
         ensures { result ≡ solved_with rounds tally }
     {
@@ -70,28 +73,15 @@ pub struct Checked {
     pub valid: usize,
 }
 
-impl Checked {
-    pub fn refused(refusal: Refusal) -> Checked
-        ensures { result ≡ refused_checked refusal }
-    {
+impl From<Refused> for Checked {
+    ghost from_gives = { λ refused answer. answer ≡ refused_checked (refusal_says refused) };
+
+    fn from(refused: Refused) -> Checked {
         Checked {
-            number: refusal.number,
-            place: refusal.place,
+            number: refused.fault.number(),
+            place: refused.place,
             undetermined: 0,
             valid: 0,
-        }
-    }
-
-    // Under the old code: the same, and the byte 1.
-    pub fn under_old_code(self) -> CheckedOld
-        ensures { result ≡ with_old_code self }
-    {
-        CheckedOld {
-            number: self.number,
-            place: self.place,
-            undetermined: self.undetermined,
-            valid: self.valid,
-            code: 1,
         }
     }
 }
@@ -106,6 +96,21 @@ pub struct CheckedOld {
     pub code: usize,
 }
 
+// Under the old code: the same, and the byte 1.
+impl From<Checked> for CheckedOld {
+    ghost from_gives = { λ checked answer. answer ≡ with_old_code checked };
+
+    fn from(checked: Checked) -> CheckedOld {
+        CheckedOld {
+            number: checked.number,
+            place: checked.place,
+            undetermined: checked.undetermined,
+            valid: checked.valid,
+            code: 1,
+        }
+    }
+}
+
 #[repr(C)]
 #[derive(Clone, Copy)]
 pub struct Ranked {
@@ -114,14 +119,25 @@ pub struct Ranked {
     pub strata: usize,
 }
 
+impl From<Refused> for Ranked {
+    ghost from_gives = { λ refused answer. answer ≡ ranked_by (refusal_says refused) 0 };
+
+    fn from(refused: Refused) -> Ranked {
+        Ranked {
+            number: refused.fault.number(),
+            place: refused.place,
+            strata: 0,
+        }
+    }
+}
+
 impl Ranked {
-    // The answer that goes with a refusal, or with none.
-    pub fn by(refusal: Refusal, strata: usize) -> Ranked
-        ensures { result ≡ ranked_by refusal strata }
+    pub fn ranked(strata: usize) -> Ranked
+        ensures { result ≡ ranked_by no_refusal strata }
     {
         Ranked {
-            number: refusal.number,
-            place: refusal.place,
+            number: 0,
+            place: 0,
             strata,
         }
     }
@@ -136,13 +152,13 @@ pub struct Totals {
     pub undetermined: usize,
 }
 
-impl Totals {
-    pub fn refused(refusal: Refusal) -> Totals
-        ensures { result ≡ refused_totals refusal }
-    {
+impl From<Refused> for Totals {
+    ghost from_gives = { λ refused answer. answer ≡ refused_totals (refusal_says refused) };
+
+    fn from(refused: Refused) -> Totals {
         Totals {
-            number: refusal.number,
-            place: refusal.place,
+            number: refused.fault.number(),
+            place: refused.place,
             valid: 0,
             undetermined: 0,
         }
@@ -157,14 +173,25 @@ pub struct Fewest {
     pub selection: usize,
 }
 
+impl From<Refused> for Fewest {
+    ghost from_gives = { λ refused answer. answer ≡ fewest_by (refusal_says refused) 0 };
+
+    fn from(refused: Refused) -> Fewest {
+        Fewest {
+            number: refused.fault.number(),
+            place: refused.place,
+            selection: 0,
+        }
+    }
+}
+
 impl Fewest {
-    // The answer that goes with a refusal, or with none.
-    pub fn by(refusal: Refusal, selection: usize) -> Fewest
-        ensures { result ≡ fewest_by refusal selection }
+    pub fn selected(selection: usize) -> Fewest
+        ensures { result ≡ fewest_by no_refusal selection }
     {
         Fewest {
-            number: refusal.number,
-            place: refusal.place,
+            number: 0,
+            place: 0,
             selection,
         }
     }

@@ -1,8 +1,11 @@
 // A solve that is not finished, as a state by value: its own copy of the case and the value of each pair so far; and what its calls answer.
 ghost use Rattle.std.specs.Prelude.{◌≡◌, min};
+ghost use Rattle.cases.specs.Refusals.{refusal_says};
+ghost use Rattle.semantics.specs.Answered.{refused_reply};
 ghost use Rattle.semantics.specs.Unfinished.{certainty, reply_number};
 
-use crate::value::{Said, Value};
+use crate::value::Value;
+use cases::refusals::Refused;
 
 // The values: 2 in the last T, 0 outside the last P worked out, else 1. `over` is 0 until the end is reached.
 #[repr(C)]
@@ -43,8 +46,20 @@ pub struct Reply {
     pub reply: usize,
 }
 
-// What is certain of a pair while a solve is unfinished, and when it is over.
-#[derive(Clone, Copy)]
+impl From<Refused> for Reply {
+    ghost from_gives = { λ refused reply. reply ≡ refused_reply (refusal_says refused) };
+
+    fn from(refused: Refused) -> Reply {
+        Reply {
+            number: refused.fault.number(),
+            place: refused.place,
+            reply: 0,
+        }
+    }
+}
+
+// What is certain of a pair while a solve is unfinished, and when it is over, in the order of the replies.
+#[derive(Clone, Copy, PartialEq, Eq)]
 pub enum Certainty {
     Impossible,
     Open,
@@ -56,10 +71,7 @@ pub enum Certainty {
 pub fn held_value(byte: u8) -> Value
     ensures { result.0 ≡ min byte 2 }
 {
-    match Value::of_byte(byte) {
-        Said::Is(value) => value,
-        Said::Above => Value::VALID,
-    }
+    Value::of_byte(byte).unwrap_or(Value::VALID)
 }
 
 // By the value of a pair so far, and whether the end is reached.
@@ -81,10 +93,5 @@ pub fn certainty_of(value: Value, over: bool) -> Certainty
 pub fn reply_number(certainty: Certainty) -> usize
     ensures { result ≡ reply_number certainty }
 {
-    match certainty {
-        Certainty::Impossible => 0,
-        Certainty::Open => 1,
-        Certainty::Sure => 2,
-        Certainty::NotYet => 3,
-    }
+    certainty as usize
 }

@@ -1,39 +1,19 @@
-// Refusals in a row, and a refusal where something is not well.
+// A refusal where something is not well.
 ghost use Rattle.std.specs.Prelude.{◌≡◌, leb};
-ghost use Rattle.semantics.specs.Operations.{or_else};
-ghost use Rattle.semantics.specs.Operations.{refuse as refusing, refuse_unless};
+ghost use Rattle.cases.specs.Refusals.{fault_number, refusal_in};
+ghost use Rattle.semantics.specs.Operations.{refuse_unless};
 
-use cases::answers::{Refusal, no_refusal};
+use cases::refusals::{Fault, Refused};
 
-// The first of two refusals.
-pub fn or_else(first: Refusal, second: Refusal) -> Refusal
-    ensures { result ≡ or_else first second }
+pub fn refused_unless(well: bool, fault: Fault, place: usize) -> Result<(), Refused>
+    ensures { refusal_in result ≡ refuse_unless well (fault_number fault) place }
 {
-    if first.number == 0 { second } else { first }
-}
-
-// The refusal of that number, none for 0.
-pub fn refuse(number: usize, place: usize) -> Refusal
-    ensures { result ≡ refusing number place }
-{
-    if number == 0 {
-        return no_refusal();
-    }
-    Refusal { number, place }
-}
-
-pub fn refuse_unless(well: bool, number: usize, place: usize) -> Refusal
-    ensures { result ≡ refuse_unless well number place }
-{
-    if well {
-        return no_refusal();
-    }
-    Refusal { number, place }
+    if well { Ok(()) } else { Err(fault.at(place)) }
 }
 
 // A table shorter than needed is refused with the length needed.
-pub fn too_short(number: usize, needed: usize, length: usize) -> Refusal
-    ensures { result ≡ refuse_unless (leb needed length) number needed }
+pub fn long_enough(fault: Fault, needed: usize, length: usize) -> Result<(), Refused>
+    ensures { refusal_in result ≡ refuse_unless (leb needed length) (fault_number fault) needed }
 {
-    refuse_unless(needed <= length, number, needed)
+    refused_unless(needed <= length, fault, needed)
 }

@@ -1,16 +1,11 @@
 // The value of a pair: 0 violated, 1 undetermined, 2 valid.
 ghost use Rattle.std.specs.Prelude.{◌≡◌, ◌-◌, min, max};
-ghost use Rattle.semantics.specs.Values.{byte_says, said_number};
+ghost use Rattle.semantics.specs.Values.{byte_says, said_value_or_fault};
 
-#[derive(Clone, Copy)]
+use cases::refusals::Fault;
+
+#[derive(Clone, Copy, PartialEq, Eq)]
 pub struct Value(pub u8);
-
-// What a byte says: a value, or none where it is above 2.
-#[derive(Clone, Copy)]
-pub enum Said {
-    Is(Value),
-    Above,
-}
 
 impl Value {
     pub const VIOLATED: Value = Value(0);
@@ -19,43 +14,32 @@ impl Value {
 
     pub const VALID: Value = Value(2);
 
-    pub fn of_byte(b: u8) -> Said
-        ensures { result ≡ byte_says b }
+    // What a byte says: a value, unless it is above 2.
+    pub fn of_byte(byte: u8) -> Result<Value, Fault>
+        ensures { result ≡ said_value_or_fault (byte_says byte) }
     {
-        match b {
-            0 => Said::Is(Value::VIOLATED),
-            1 => Said::Is(Value::OPEN),
-            2 => Said::Is(Value::VALID),
-            _ => Said::Above,
-        }
-    }
-
-    // The number of a refusal, 0 for a byte that says a value.
-    pub fn refusal_number(said: Said) -> usize
-        ensures { result ≡ said_number said }
-    {
-        match said {
-            Said::Is(_) => 0,
-            Said::Above => 13,
+        if byte <= 2 {
+            Ok(Value(byte))
+        } else {
+            Err(Fault::NoValue)
         }
     }
 
     pub fn deny(self) -> Value
         ensures { result.0 ≡ 2 - self.0 }
     {
-        let v = self.0;
-        if v <= 2 { Value(2 - v) } else { Value(0) }
+        Value(2u8.saturating_sub(self.0))
     }
 
     pub fn smaller(self, other: Value) -> Value
         ensures { result.0 ≡ min self.0 other.0 }
     {
-        if self.0 <= other.0 { self } else { other }
+        Value(self.0.min(other.0))
     }
 
     pub fn larger(self, other: Value) -> Value
         ensures { result.0 ≡ max self.0 other.0 }
     {
-        if self.0 <= other.0 { other } else { self }
+        Value(self.0.max(other.0))
     }
 }

@@ -2,14 +2,23 @@
 use Prim.Native.Nat.{ℕ, ◌+◌, ◌*◌, ◌≤◌, ◌<◌}
 use native.Mathlib.Nat.{mul-le-mul_right}
 use native.Mathlib.Omega.{arith}
-use mathlib.Core.Path.{◌≡◌, ap}
+use Rattle.std.specs.Prelude.{Result, Err}
+use Rattle.std.specs.Result.{IsErrAnd}
+use Rattle.std.proofs.lemmas.Result.{err_from_is_err_and}
+use mathlib.Core.Path.{◌≡◌, ap, ◌∙◌}
 use mathlib.Core.Logic.{⊎_elim}
 use Rattle.fixpoint.specs.Lists.{up_to}
 use Rattle.fixpoint.proofs.Lists.{lt_cases}
-use Rattle.cases.specs.Refusals.{Refusal, no_refusal}
+use Rattle.cases.proofs.Faulted.{refused_some}
+use Rattle.cases.specs.Refusals.{Refusal, no_refusal, refusal_says, refusal_in}
+use Rattle.cases.specs.declared.refusals.Refused.{Refused}
 use Rattle.semantics.specs.Operations.{first_of}
 use Rattle.semantics.proofs.Refusing.{well_first, well_all}
 use Rattle.support.specs.Proposals.{FirstIn}
+
+-- and is passed on
+pub refused_on : {A : Type 0} (e : Refused) (r : Result A Refused) → IsErrAnd r (λ x. x ≡ e) → refusal_in r ≡ refusal_says e
+refused_on e r h = let p = err_from_is_err_and r h in ap refusal_in (p.1 ∙ ap Err p.2)
 
 -- ---- From a number on nothing is refused below k, and then there is a refusal, or the end
 

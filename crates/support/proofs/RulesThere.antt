@@ -8,8 +8,6 @@ use mathlib.Core.List.{List, [], ◌∷◌}
 use lib.Arith.{digits_lt}
 use lib.Dec.{eqb, leb}
 use lib.ListN.{length, get_or}
-use mir.Syntax.{w64}
-use mir.Val.{Fits}
 use Rattle.fixpoint.specs.Lists.{any}
 use Rattle.fixpoint.proofs.Lists.{any_in}
 use Rattle.bitset.specs.Words.{member, HasRow}
@@ -168,11 +166,3 @@ module _ {counts : Counts} {rows sets : List ℕ} {of : Ruled} (i : RuleIn count
 
       pub value_possible : member possible of.size.words s a ≡ leb 1 (get_or values (s * of.size.nodes + a) 0)
       value_possible = rw i.size_is (v.possible_set.members s a l (node_of_counts h))
-
-    -- the place of the shape's own pair is small
-    module _ (o : length values < 2 ^ 64) where
-      pub own_row_fits : Fits w64 (of.shape.0 * of.size.nodes)
-      own_row_fits = record { fits = omega (arith, value_there i.below) }
-
-      pub own_place_fits : Fits w64 (of.shape.0 * of.size.nodes + a)
-      own_place_fits = record { fits = omega (arith, value_there i.below) }

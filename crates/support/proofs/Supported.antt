@@ -1,5 +1,6 @@
 -- The value that a rule gives a pair, by the values that it reads and by the sets of valid and of possible pairs; and the pairs that have it.
 -- Assumes nothing.
+use Rattle.std.specs.Prelude.{Ok}
 use Prim.Native.Nat.{ℕ, zero, suc, ◌+◌, ◌-◌, ◌*◌, ◌≤◌, ◌<◌, min, max}
 use native.Mathlib.Omega.{arith}
 use mathlib.Core.Path.{◌≡◌, refl, sym, ap, ap₂, ◌∙◌}
@@ -23,22 +24,19 @@ use Rattle.cases.specs.declared.numbers.Shape.{Shape}
 use Rattle.cases.specs.declared.numbers.Path.{Path}
 use Rattle.fillers.specs.CaseTables.{Tables}
 use Rattle.fillers.proofs.InTables.{pair_count_is}
-use Rattle.semantics.specs.declared.value.Said.{Said}
-use Rattle.semantics.specs.declared.value.Said.TheVariants.{Is, Above}
-use Rattle.semantics.specs.declared.value.Value.{Value}
 use Rattle.semantics.specs.OldCode.{support_fault}
 use Rattle.semantics.specs.Operations.{refuse_unless}
 use Rattle.semantics.specs.Paths.{live}
 use Rattle.semantics.specs.Stability.{holds}
-use Rattle.semantics.specs.Values.{byte_says, said_number, said_value, pair_of, shape_of, node_of, entry_at, rule_value, pair_value, supported_at}
+use Rattle.semantics.specs.Values.{byte_says, said_value_or_fault, pair_of, shape_of, node_of, entry_at, rule_value, pair_value, supported_at}
 use Rattle.semantics.proofs.Kernel.{holds_grows}
 use Rattle.semantics.proofs.Thresholds.{value_at_least, value_at_most}
 use Rattle.cases.specs.declared.ruled.Ruled.{Ruled}
-use Rattle.support.specs.Proposals.{Proposed, ValuesRead, unsupported, RowSupported}
+use Rattle.support.specs.Proposals.{ValuesRead, unsupported, RowSupported}
 use Rattle.cases.specs.Ruled.{ruled_in}
 use Rattle.support.specs.Rules.{RuleIn, RuleGives, PairGives}
 use Rattle.support.proofs.Holding.{RuleHolds, holds_same, holds_all, holds_least}
-use Rattle.support.proofs.Passing.{WellFrom, well_start, well_next, first_found, first_none_found, RowsWell, rows_well_none, rows_well_more, rows_well_first, rows_well_all}
+use Rattle.support.proofs.Passing.{WellFrom, well_next, first_found, RowsWell, rows_well_first, rows_well_all}
 use Rattle.support.proofs.RulesThere.{rule_in, rule_of, node_of_counts, rule_positive, shapes_known, value_small, value_valid, value_possible}
 
 -- a rule that is read in sets that agree at its references holds in both or in neither
@@ -53,16 +51,9 @@ holds_agree c r a Y Y' X X' ha f g =
 
 -- ---- A byte that is at most 2 says its value
 
-module _ (b : ℕ) {said : Said} (e : said ≡ byte_says b) (small : b ≤ 2) where
-  says_value : said ≡ Is (record { 0 = b })
-  unfolding byte_says
-  says_value = e ∙ rw (le-leb b 2 small)
-
-  pub said_value_is : {v : Value} → said ≡ Is v → v.0 ≡ b
-  said_value_is q = ap said_value (sym q ∙ says_value)
-
-  pub said_above : said ≡ Above → 0 ≡ b
-  said_above q = let n : ◌≡◌ {A = ℕ} 13 0 = ap said_number (sym q ∙ says_value) in absurd (omega (arith, n))
+pub says_value : (b : ℕ) → b ≤ 2 → said_value_or_fault (byte_says b) ≡ Ok (record { 0 = b })
+unfolding byte_says
+says_value b small = rw (le-leb b 2 small)
 
 -- ---- A rule and its pairs in the case
 
@@ -115,9 +106,9 @@ module _ {of : Ruled} {a : ℕ} {sets values : List ℕ} where
   unfolding rule_value
   gives_top e = record { right = λ counts rows i. rw e }
 
-  pub gives_node : {b : Node} {x : ℕ} → of.rule ≡ NodeRule b → x ≡ cond (eqb b.0 a) 2 (cond false 1 0) → RuleGives of a sets values x
+  pub gives_node : {b : Node} {x : ℕ} {z : Bool} → of.rule ≡ NodeRule b → z ≡ eqb b.0 a → x ≡ cond z 2 (cond false 1 0) → RuleGives of a sets values x
   unfolding rule_value
-  gives_node e q = record { right = λ counts rows i. q ∙ rw e }
+  gives_node e f q = record { right = λ counts rows i. q ∙ rw (e, f) }
 
   module _ {s q : Shape} {x y z : ℕ} where
     pub gives_and : of.rule ≡ And s q → x ≡ min y z → y ≡ get_or values (s.0 * of.size.nodes + a) 0 → z ≡ get_or values (q.0 * of.size.nodes + a) 0
@@ -231,9 +222,6 @@ pub record SupportedTo (of : Ruled) (sets values : List ℕ) (a : ℕ) : Type 0 
       → WellFrom (unsupported counts rows values) (of.shape.0 * counts.nodes) (of.shape.0 * counts.nodes + a)
 
 module _ {of : Ruled} {sets values : List ℕ} where
-  pub supported_none : SupportedTo of sets values 0
-  supported_none = record { most = omega arith; well = λ counts rows i. well_start (omega arith) }
-
   module _ {a : ℕ} (v : SupportedTo of sets values a) where
     module _ {x : ℕ} {r : Refusal} (h : a < of.size.nodes) (e : r ≡ refuse_unless (eqb (get_or values (of.shape.0 * of.size.nodes + a) 0) x) 14 (of.shape.0 * of.size.nodes + a))
         (g : PairGives of a sets values x) where
@@ -255,11 +243,6 @@ module _ {of : Ruled} {sets values : List ℕ} where
             first_found (fault_is i) n (omega arith) (omega (arith, node_of_counts i h)) (digits_lt i.below (node_of_counts i h)) (v.well counts rows i);
       }
 
-    pub supported_all : {r : Refusal} → of.size.nodes ≤ a → r ≡ no_refusal → RowSupported of sets values r
-    supported_all h e = record {
-      right = λ counts rows i. let m : counts.nodes ≤ a = rw i.size_is at h in first_none_found e (λ k l o. omega arith) (v.well counts rows i);
-    }
-
 -- ---- All shapes: the pairs of those below s are supported
 
 pub record SupportedRows (counts : Counts) (rows sets values : List ℕ) (s : ℕ) : Type 0 where
@@ -267,18 +250,9 @@ pub record SupportedRows (counts : Counts) (rows sets values : List ℕ) (s : �
   pub well : RowsWell (unsupported counts rows values) counts.nodes counts.shapes (counts.shapes * counts.nodes) s
 
 module _ {counts : Counts} {rows sets values : List ℕ} where
-  pub supported_rows_none : Tables counts rows sets → SupportedRows counts rows sets values 0
-  supported_rows_none t = record { tables = t; well = rows_well_none }
-
   module _ {s : ℕ} (v : SupportedRows counts rows sets values s) where
     module _ (h : s < counts.shapes) {of : Ruled} (e : of ≡ ruled_in counts rows (record { 0 = s })) where
-      pub values_read : {valid possible : List ℕ} → Proposed counts values valid possible → ValuesRead of sets values valid possible
-      values_read p = record { counts = counts; rows = rows; rule_in = rule_in v.tables h e; proposed = p }
-
       module _ {r : Refusal} (g : RowSupported of sets values r) where
-        pub supported_rows_more : r.number ≡ 0 → SupportedRows counts rows sets values (s + 1)
-        supported_rows_more z = record { tables = v.tables; well = rows_well_more h (rw e at (g.right counts rows (rule_in v.tables h e))) z v.well }
-
         pub supported_rows_first : (r.number ≡ 0 → ⊥) → r ≡ support_fault (case_in counts rows) values
         supported_rows_first n = rows_well_first (rw e at (g.right counts rows (rule_in v.tables h e))) n v.well ∙ rw (← pair_count_is v.tables)
 

@@ -2,6 +2,7 @@
 // by them.
 ghost use Rattle.std.specs.Prelude.{◌≡◌, ◌*◌, ◌≤◌, length};
 ghost use Rattle.cases.specs.Counts.{words_of};
+ghost use Rattle.cases.specs.Refusals.{refusal_in};
 ghost use Rattle.cases.specs.Rows.{case_in};
 ghost use Rattle.fillers.specs.CaseTables.{Tables};
 ghost use Rattle.semantics.specs.OldCode.{support_fault};
@@ -9,37 +10,38 @@ ghost use Rattle.semantics.specs.Operations.{or_else, value_fault};
 ghost use Rattle.support.specs.Proposals.{Proposed, ProposedUnless, ValuesRead, RowSupported, value_fault_in};
 
 use crate::rule_values::pair_value;
-use cases::answers::{Refusal, no_refusal};
 use cases::counts::Counts;
 use cases::numbers::{Node, Shape};
+use cases::refusals::{Fault, Refused};
 use cases::ruled::{Ruled, ruled_in};
 use pairs::thresholds::fill;
-use semantics::refusals::{refuse, refuse_unless};
+use semantics::refusals::refused_unless;
 use semantics::value::Value;
 
 // 13: the first pair whose byte says no value. Those below k say one.
-pub fn value_fault(values: &[u8], pairs: usize) -> Refusal
+pub fn value_fault(values: &[u8], pairs: usize) -> Result<(), Refused>
     requires { pairs ≤ length values.now }
-    ensures { result ≡ value_fault_in values.now pairs }
+    ensures { refusal_in result ≡ value_fault_in values.now pairs }
 {
     for k in 0..pairs {
-        let said = Value::of_byte(values[k]);
-        let refusal = refuse(Value::refusal_number(said), k);
-        if refusal.number != 0 {
-            return refusal;
-        }
+        Value::of_byte(values[k]).map_err(|fault| fault.at(k))?;
     }
-    no_refusal()
+    Ok(())
 }
 
 // 13; and where there is none, the sets are those of the valid and of the possible pairs.
-pub fn propose(counts: Counts, values: &[u8], valid: &mut [u64], possible: &mut [u64]) -> Refusal
+pub fn propose(
+    counts: Counts,
+    values: &[u8],
+    valid: &mut [u64],
+    possible: &mut [u64],
+) -> Result<(), Refused>
     requires nodes_bound { counts.nodes ≤ 64 * words_of counts }
     requires counts_bound { counts.shapes * words_of counts ≤ 64 }
     requires nodes_in_bounds { counts.shapes * counts.nodes ≤ length values.now }
     requires in_bounds { 64 ≤ length valid.old }
     requires in_bounds_2 { 64 ≤ length possible.old }
-    ensures { ProposedUnless counts values.now valid.new possible.new result }
+    ensures { ProposedUnless counts values.now valid.new possible.new (refusal_in result) }
 {
     fill(counts, values, Value::VALID, valid);
     fill(counts, values, Value::OPEN, possible);
@@ -53,19 +55,16 @@ fn unsupported_row(
     values: &[u8],
     valid: &[u64],
     possible: &[u64],
-) -> Refusal
+) -> Result<(), Refused>
     requires { ValuesRead of sets.now values.now valid.now possible.now }
-    ensures { RowSupported of sets.now values.now result }
+    ensures { RowSupported of sets.now values.now (refusal_in result) }
 {
     for a in 0..of.size.nodes {
         let k = of.shape.0 * of.size.nodes + a;
         let value = pair_value(of, Node(a), sets, values, valid, possible);
-        let fault = refuse_unless(values[k] == value.0, 14, k);
-        if fault.number != 0 {
-            return fault;
-        }
+        refused_unless(values[k] == value.0, Fault::Unsupported, k)?;
     }
-    no_refusal()
+    Ok(())
 }
 
 // The first pair that is not supported. Those of the shapes below s are.
@@ -76,32 +75,31 @@ pub fn support_fault(
     values: &[u8],
     valid: &[u64],
     possible: &[u64],
-) -> Refusal
+) -> Result<(), Refused>
     requires tables { Tables counts rows.now sets.now }
     requires proposed { Proposed counts values.now valid.now possible.now }
-    ensures { result ≡ support_fault (case_in counts rows.now) values.now }
+    ensures { refusal_in result ≡ support_fault (case_in counts rows.now) values.now }
 {
     for s in 0..counts.shapes {
         let of = ruled_in(counts, rows, Shape(s));
-        let fault = unsupported_row(of, sets, values, valid, possible);
-        if fault.number != 0 {
-            return fault;
-        }
+        unsupported_row(of, sets, values, valid, possible)?;
     }
-    no_refusal()
+    Ok(())
 }
 
-// The first fault of the proposed values, without levels, number 0 for none.
-pub fn check_support(counts: Counts, rows: &[u16], sets: &[u64], values: &[u8]) -> Refusal
+// The first fault of the proposed values, without levels.
+pub fn check_support(
+    counts: Counts,
+    rows: &[u16],
+    sets: &[u64],
+    values: &[u8],
+) -> Result<(), Refused>
     requires tables { Tables counts rows.now sets.now }
     requires nodes_in_bounds { counts.shapes * counts.nodes ≤ length values.now }
-    ensures { result ≡ or_else (value_fault (case_in counts rows.now) values.now) (support_fault (case_in counts rows.now) values.now) }
+    ensures { refusal_in result ≡ or_else (value_fault (case_in counts rows.now) values.now) (support_fault (case_in counts rows.now) values.now) }
 {
     let mut valid = [0u64; 64];
     let mut possible = [0u64; 64];
-    let fault = propose(counts, values, &mut valid, &mut possible);
-    if fault.number != 0 {
-        return fault;
-    }
+    propose(counts, values, &mut valid, &mut possible)?;
     support_fault(counts, rows, sets, values, &valid, &possible)
 }

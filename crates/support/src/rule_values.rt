@@ -11,7 +11,7 @@ use cases::numbers::{Node, Shape};
 use cases::ruled::Ruled;
 use fillers::places::filler_row;
 use pairs::writing::value_of;
-use semantics::value::{Said, Value};
+use semantics::value::Value;
 
 // The value of shape s at node a, a byte of which is known that it says one.
 fn value_at(values: &[u8], size: Size, s: Shape, a: Node) -> Value
@@ -19,11 +19,7 @@ fn value_at(values: &[u8], size: Size, s: Shape, a: Node) -> Value
     requires a_bound { get_or values.now (s.0 * size.nodes + a.0) 0 ≤ 2 }
     ensures { result.0 ≡ get_or values.now (s.0 * size.nodes + a.0) 0 }
 {
-    let at = s.0 * size.nodes + a.0;
-    let Said::Is(value) = Value::of_byte(values[at]) else {
-        return Value::VIOLATED;
-    };
-    value
+    Value::of_byte(values[s.0 * size.nodes + a.0]).unwrap_or(Value::VIOLATED)
 }
 
 // The rule's value at node a, which is live.
@@ -44,7 +40,7 @@ fn rule_value(
     let rule = of.rule;
     match rule {
         ShapeRule::Top => Value::VALID,
-        ShapeRule::Node(b) => value_of(b.0 == a.0, false),
+        ShapeRule::Node(b) => value_of(b == a, false),
         ShapeRule::And(s, q) => value_at(values, size, s, a).smaller(value_at(values, size, q, a)),
         ShapeRule::Or(s, q) => value_at(values, size, s, a).larger(value_at(values, size, q, a)),
         ShapeRule::Not(s) => value_at(values, size, s, a).deny(),

@@ -11,7 +11,7 @@ use lib.Seq.{take_all, take-length, length-take-le}
 use Rattle.fixpoint.proofs.Lists.{lt_cases}
 use Rattle.cases.specs.Reading.{Outcome}
 use Rattle.cases.specs.Rows.{case_in}
-use Rattle.cases.specs.declared.answers.Parsed.{Parsed}
+use Rattle.reader.specs.Parsing.{Parsed}
 use Rattle.reader.specs.Parsing.{ParsedAs}
 use Rattle.semantics.specs.Operations.{case_of}
 use Rattle.semantics.specs.Unfinished.{held_case, after_round, advanced, advance_answer}

@@ -1,22 +1,10 @@
 // Advancing: one round on a state of any contents. The case is read again from its bytes; what does not read is the case without anything.
-ghost use Rattle.std.specs.Prelude.{◌≡◌, cond, min};
+ghost use Rattle.std.specs.Prelude.{◌≡◌};
 ghost use Rattle.semantics.specs.Unfinished.{held_case, after_round, advanced, advance_answer};
 
 use crate::working::work_round;
 use reader::reading::parse;
 use semantics::ongoing::{Advanced, Unfinished};
-
-fn least(a: usize, b: usize) -> usize
-    ensures { result ≡ min a b }
-{
-    if a <= b { a } else { b }
-}
-
-fn one_if(test: bool) -> usize
-    ensures { result ≡ cond test 1 0 }
-{
-    if test { 1 } else { 0 }
-}
 
 fn take_round(u: Unfinished) -> Unfinished
     ensures { result ≡ after_round (held_case u) u }
@@ -25,12 +13,12 @@ fn take_round(u: Unfinished) -> Unfinished
     let earlier = u.values;
     let mut values = u.values;
     let mut rows = [0u16; 5360];
-    let n = least(u.length, 8192);
-    let parsed = parse(&bytes[..n], &mut rows);
-    let over = work_round(parsed.counts, &rows, &earlier, &mut values);
+    let n = u.length.min(8192);
+    let counts = parse(&bytes[..n], &mut rows).unwrap_or_default();
+    let over = work_round(counts, &rows, &earlier, &mut values);
     let mut after = u;
     after.values = values;
-    after.over = one_if(over);
+    after.over = usize::from(over);
     after
 }
 
@@ -50,7 +38,7 @@ pub fn advance(u: Unfinished) -> Advanced
 {
     let after = go_on(u);
     Advanced {
-        over: one_if(after.over != 0),
+        over: usize::from(after.over != 0),
         unfinished: after,
     }
 }

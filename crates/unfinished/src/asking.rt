@@ -2,13 +2,14 @@
 ghost use Rattle.std.specs.Prelude.{◌≡◌, get_or};
 ghost use Rattle.semantics.specs.Unfinished.{asked, certain_of};
 
+use cases::refusals::Fault;
 use semantics::ongoing::{Certainty, Reply, Unfinished, certainty_of, held_value, reply_number};
 
 // The byte at a place, 0 behind the end.
 fn byte_at(bytes: &[u8], at: usize) -> u8
     ensures { result ≡ get_or bytes.now at 0 }
 {
-    if at < bytes.len() { bytes[at] } else { 0 }
+    bytes.get(at).copied().unwrap_or(0)
 }
 
 fn certain_of(u: Unfinished, pair: usize) -> Certainty
@@ -29,9 +30,5 @@ pub fn ask(u: Unfinished, pair: usize) -> Reply
             reply: reply_number(certain),
         };
     }
-    Reply {
-        number: 21,
-        place: pair,
-        reply: 0,
-    }
+    Reply::from(Fault::UnknownPair.at(pair))
 }

@@ -1,5 +1,4 @@
 -- `adding::candidates::first_unknown` meets its contract. The invariant: the candidates below i are known. Assumes nothing.
-use Prim.Native.Nat.{◌-◌}
 use Rattle.semantics.proofs.Refusing.{Well}
 use Rattle.adding.specs.Candidates.{unknown_at}
 use Rattle.adding.proofs.candidates.first_unknown.Given as goal

@@ -1,5 +1,4 @@
 -- `adding::choosing::choose` meets its contract. The invariant: the chosen ones below i are there. Assumes nothing.
-use Prim.Native.Nat.{◌-◌}
 use mathlib.Core.Path.{◌≡◌}
 use lib.ListN.{length}
 use Rattle.adding.specs.Choosing.{ChosenTo}

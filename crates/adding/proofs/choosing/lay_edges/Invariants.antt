@@ -1,5 +1,4 @@
 -- `adding::choosing::lay_edges` meets its contract. The invariant: the edges below i are there. Assumes nothing.
-use Prim.Native.Nat.{◌-◌}
 use Rattle.adding.proofs.Chosen.{LayingEdges}
 use Rattle.adding.proofs.choosing.lay_edges.Given as goal
 

@@ -1,15 +1,9 @@
 -- `adding::choosing::rows_with` meets its contract: the chosen ones, the edges, and the chosen ones behind them. Assumes nothing.
-use Rattle.adding.proofs.Chosen.{chosen_fit, chosen_few, rows_hold}
+use Rattle.adding.proofs.Chosen.{chosen_fit, rows_hold}
 use Rattle.adding.proofs.choosing.rows_with.Goals as goal
 
 pub lay_edges-requires-clause-n_in_bounds : goal.lay_edges-requires-clause-n_in_bounds
 lay_edges-requires-clause-n_in_bounds c = search chosen_fit
-
-pub lay_chosen-requires-clause-n_bound : goal.lay_chosen-requires-clause-n_bound
-lay_chosen-requires-clause-n_bound c = search chosen_few
-
-pub lay_chosen-requires-clause-n_in_bounds : goal.lay_chosen-requires-clause-n_in_bounds
-lay_chosen-requires-clause-n_in_bounds c = search chosen_fit
 
 pub returns : goal.returns
 returns c = search rows_hold

@@ -1,8 +1,6 @@
 -- `adding::searching::first_key` meets its contract. The invariant: no key below this one is it. Assumes nothing.
-use Prim.Native.Nat.{◌-◌}
-use Rattle.adding.proofs.Keyed.{SearchingTo, KeysOf}
+use Rattle.adding.proofs.Keyed.{SearchingTo}
 use Rattle.adding.proofs.searching.first_key.Given as goal
 
 abbrev pub invariant-loop-key : goal.invariant-loop-key
-invariant-loop-key l =
-    SearchingTo l.asked l.slice l.list l.initial.rows l.initial.tables l.keys l.key l.rows l.tables × KeysOf l.list l.keys
+invariant-loop-key l = SearchingTo l.asked l.key l.rows l.tables

@@ -3,13 +3,10 @@ use Rattle.adding.proofs.Keyed.{few_candidates, other_size, this_size}
 use Rattle.adding.proofs.searching.is_sure.Goals as goal
 
 pub selection_count-selections-requires : goal.selection_count-selections-requires
-selection_count-selections-requires c = search few_candidates
+selection_count-selections-requires c = search (few_candidates c.args.asked.now)
 
-pub chosen_count-requires : goal.chosen_count-requires
-chosen_count-requires c = search few_candidates
-
-pub returns-then-chosen_count-key : goal.returns-then-chosen_count-key
-returns-then-chosen_count-key c = search other_size
+pub returns-then-selection-key : goal.returns-then-selection-key
+returns-then-selection-key c = search other_size
 
 pub returns : goal.returns
 returns c = search this_size

@@ -4,41 +4,25 @@ use borrow.Author.Tests.{ne_eqb}
 use Rattle.cases.specs.Format.{command_of}
 use Rattle.cases.proofs.command.command_of.Goals as goal
 
-pub edge_of-requires : goal.edge_of-requires
-unfolding command_of
-edge_of-requires c = search rules
-
-pub path_rule_of-requires : goal.path_rule_of-requires
-unfolding command_of
-path_rule_of-requires c = search rules
-
-pub shape_rule_of-requires : goal.shape_rule_of-requires
-unfolding command_of
-shape_rule_of-requires c = search rules
-
-pub target_of-requires : goal.target_of-requires
-unfolding command_of
-target_of-requires c = search rules
-
 pub returns-in-1 : goal.returns-in-1
 unfolding command_of
 returns-in-1 c = rw c.in-1.is
 
 pub returns-in-2 : goal.returns-in-2
 unfolding command_of
-returns-in-2 c = rw (c.in-2.is, c.edge_of.ensures)
+returns-in-2 c = rw (c.in-2.is, c.from.ensures)
 
 pub returns-in-3 : goal.returns-in-3
 unfolding command_of
-returns-in-3 c = rw (c.in-3.is, c.path_rule_of.ensures)
+returns-in-3 c = rw (c.in-3.is, c.from-in-3.ensures)
 
 pub returns-in-4 : goal.returns-in-4
 unfolding command_of
-returns-in-4 c = rw (c.in-4.is, c.shape_rule_of.ensures)
+returns-in-4 c = rw (c.in-4.is, c.from-in-4.ensures)
 
 pub returns-in-5 : goal.returns-in-5
 unfolding command_of
-returns-in-5 c = rw (c.in-5.is, c.target_of.ensures)
+returns-in-5 c = rw (c.in-5.is, c.from-in-5.ensures)
 
 pub returns-in_default : goal.returns-in_default
 unfolding command_of

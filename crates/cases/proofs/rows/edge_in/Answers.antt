@@ -4,4 +4,4 @@ use Rattle.cases.proofs.rows.edge_in.Goals as goal
 
 pub returns : goal.returns
 unfolding edge_in
-returns c = rw (c.edge_of.ensures, c.row_in.ensures)
+returns c = rw (c.from.ensures, c.row_in.ensures)

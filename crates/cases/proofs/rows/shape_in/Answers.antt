@@ -4,4 +4,4 @@ use Rattle.cases.proofs.rows.shape_in.Goals as goal
 
 pub returns : goal.returns
 unfolding shape_in
-returns c = rw (c.shape_rule_of.ensures, c.row_in.ensures)
+returns c = rw (c.from.ensures, c.row_in.ensures)

@@ -4,4 +4,4 @@ use Rattle.cases.proofs.rows.target_in.Goals as goal
 
 pub returns : goal.returns
 unfolding target_in
-returns c = rw (c.target_of.ensures, c.row_in.ensures)
+returns c = rw (c.from.ensures, c.row_in.ensures)

@@ -2,10 +2,10 @@
 use Rattle.finding.specs.Finding.{with_edge}
 use Rattle.finding.proofs.commands.with_edge.Goals as goal
 
-pub returns-then-is_unlaid : goal.returns-then-is_unlaid
+pub returns-then-not-edge_there : goal.returns-then-not-edge_there
 unfolding with_edge
-returns-then-is_unlaid c = rw (c.refused_finding.ensures, ← c.is_unlaid.ensures, c.if-is_unlaid.true)
+returns-then-not-edge_there c = rw (← c.edge_there.ensures, c.if-not-edge_there.true)
 
 pub returns : goal.returns
 unfolding with_edge
-returns c = rw (← c.is_unlaid.ensures, c.if-is_unlaid.false)
+returns c = rw (← c.edge_there.ensures, c.if-not-edge_there.false)

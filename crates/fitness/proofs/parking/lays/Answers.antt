@@ -1,15 +1,13 @@
--- `fitness::parking::lays` meets its contract, operand by operand. Assumes nothing.
-use Rattle.fitness.proofs.Laid.{other_object, other_subject, other_property, same_operands}
+-- `fitness::parking::lays` meets its contract: code and operands are tested, in any order. Assumes nothing.
+use Rattle.std.proofs.Common.{arith}
+use Rattle.std.proofs.lemmas.Bool.Decides.{nat_tests}
+use Rattle.cases.specs.Case.{edge_is}
 use Rattle.fitness.proofs.parking.lays.Goals as goal
 
-pub returns-then-edge-other : goal.returns-then-edge-other
-returns-then-edge-other c = search other_object
+pub returns-then-eq-3 : goal.returns-then-eq-3
+unfolding edge_is
+returns-then-eq-3 c = grind (arith, nat_tests)
 
-pub returns-then-edge-other-2 : goal.returns-then-edge-other-2
-returns-then-edge-other-2 c = search other_subject
-
-pub returns-then-edge-other-3 : goal.returns-then-edge-other-3
-returns-then-edge-other-3 c = search other_property
-
-pub returns : goal.returns
-returns c = search same_operands
+pub returns-else-eq-3 : goal.returns-else-eq-3
+unfolding edge_is
+returns-else-eq-3 c = grind (arith, nat_tests)

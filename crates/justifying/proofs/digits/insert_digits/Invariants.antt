@@ -1,9 +1,6 @@
--- `justifying::digits::insert_digits` meets its contract. The invariant: the node is in the rows of the digits outside `rest`. Assumes nothing.
+-- `justifying::digits::insert_digits` meets its contract. The invariant: the node is in the rows of the digits that are not left. Assumes nothing.
 use Rattle.justifying.proofs.InDigits.{InsertedBut}
 use Rattle.justifying.proofs.digits.insert_digits.Given as goal
 
-abbrev pub invariant-loop-rest : goal.invariant-loop-rest
-invariant-loop-rest l = InsertedBut l.rest l.initial.digits l.w l.a l.level l.digits
-
-abbrev pub decreases-loop-rest : goal.decreases-loop-rest
-decreases-loop-rest l = l.rest
+abbrev pub invariant-loop-k : goal.invariant-loop-k
+invariant-loop-k l = InsertedBut l.k-iterator.0 l.initial.digits l.w l.a l.level l.digits

@@ -4,6 +4,3 @@ use Rattle.justifying.proofs.digits.lower_in.Given as goal
 
 abbrev pub invariant-loop-k : goal.invariant-loop-k
 invariant-loop-k l = ComparedTo l.digits l.w l.used l.i l.bound l.k l.lower l.same
-
-abbrev pub decreases-loop-k : goal.decreases-loop-k
-decreases-loop-k l = l.k

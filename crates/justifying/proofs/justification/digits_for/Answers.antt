@@ -1,6 +1,6 @@
 -- `justifying::justification::digits_for` meets its contract: only an all and an at least read levels at fillers. Assumes nothing.
 use Rattle.support.proofs.RulesThere.{all_known, least_known, all_path_named, least_path_named, block_named}
-use Rattle.justifying.proofs.Justified.{level_row, digits_unused, digits_of_all, digits_of_least}
+use Rattle.justifying.proofs.Justified.{level_row, digits_of_all, digits_of_least}
 use Rattle.justifying.proofs.justification.digits_for.Goals as goal
 
 pub digits_over-requires-clause-block : goal.digits_over-requires-clause-block
@@ -14,24 +14,6 @@ digits_over-requires-in-AtLeast-clause-block c = search (block_named, least_path
 
 pub digits_over-requires-in-AtLeast-clause-level_row : goal.digits_over-requires-in-AtLeast-clause-level_row
 digits_over-requires-in-AtLeast-clause-level_row c = search (level_row, least_known)
-
-pub returns-in-Top : goal.returns-in-Top
-returns-in-Top c = digits_unused _
-
-pub returns-in-Node : goal.returns-in-Node
-returns-in-Node c = digits_unused _
-
-pub returns-in-And : goal.returns-in-And
-returns-in-And c = digits_unused _
-
-pub returns-in-Or : goal.returns-in-Or
-returns-in-Or c = digits_unused _
-
-pub returns-in-Not : goal.returns-in-Not
-returns-in-Not c = digits_unused _
-
-pub returns-in-Same : goal.returns-in-Same
-returns-in-Same c = digits_unused _
 
 pub returns-in-All : goal.returns-in-All
 returns-in-All c = search digits_of_all

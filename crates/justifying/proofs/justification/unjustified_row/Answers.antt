@@ -1,27 +1,18 @@
-use native.Mathlib.Omega.{arith}
-use Rattle.justifying.proofs.Justified.{level_base_fits, level_end_fits, justified_none, justified_node, justified_more, justified_first, justified_all}
+use Rattle.std.proofs.Common.{rules}
+use Rattle.cases.proofs.Faulted.{refused_some}
+use Rattle.support.proofs.Passing.{refused_on}
+use Rattle.justifying.proofs.Justified.{justified_node, justified_more, justified_first, justified_all}
 use Rattle.justifying.proofs.justification.unjustified_row.Goals as goal
 
-pub overflow_mul-first : goal.overflow_mul-first
-overflow_mul-first c = search (level_base_fits, arith)
-
-pub overflow_add-first : goal.overflow_add-first
-overflow_add-first c = search (level_end_fits, arith)
-
-pub loop-k-init : goal.loop-k-init
-loop-k-init c = justified_none
-
-pub overflow_sub-a : goal.overflow_sub-a
-overflow_sub-a c = c.loop-k.invariant.from
-
 pub is_justified-justified-requires-clause-a_lt_nodes : goal.is_justified-justified-requires-clause-a_lt_nodes
-is_justified-justified-requires-clause-a_lt_nodes c = search justified_node
+is_justified-justified-requires-clause-a_lt_nodes c = search (justified_node, rules)
 
-pub returns-then-fault-ne0 : goal.returns-then-fault-ne0
-returns-then-fault-ne0 c = search justified_first
+pub returns-in_err-refused_unless : goal.returns-in_err-refused_unless
+returns-in_err-refused_unless c =
+    let e = c.in_err-refused_unless.ensures in rw (refused_on _ c.from_residual.result c.from_residual.ensures.1) (search (justified_first, refused_some, rules))
 
 pub loop-k-preserved : goal.loop-k-preserved
-loop-k-preserved c = search (justified_more c.loop-k.invariant)
+loop-k-preserved c = let e = c.in_ok-refused_unless.ensures in search (justified_more c.loop-k.invariant, rules)
 
 pub returns : goal.returns
-returns c = search justified_all
+returns c = search (justified_all, rules)

@@ -1,8 +1,5 @@
-use Rattle.justifying.proofs.Lowered.{asked_row, row_passed_none, row_passed_more, row_passed_not, row_passed_done}
+use Rattle.justifying.proofs.Lowered.{asked_row, row_passed_more, row_passed_not, row_passed_done}
 use Rattle.justifying.proofs.low_levels.all_lower.Goals as goal
-
-pub loop-i-init : goal.loop-i-init
-loop-i-init c = row_passed_none
 
 pub lower_word-requires : goal.lower_word-requires
 lower_word-requires c = search asked_row

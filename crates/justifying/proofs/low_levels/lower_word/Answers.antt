@@ -1,9 +1,6 @@
 -- `justifying::low_levels::lower_word` meets its contract. Assumes nothing.
-use Rattle.justifying.proofs.Lowered.{digits_long, digits_few, lower_by_digits}
+use Rattle.justifying.proofs.Lowered.{lower_by_digits}
 use Rattle.justifying.proofs.low_levels.lower_word.Goals as goal
 
-pub lower_in-requires : goal.lower_in-requires
-lower_in-requires c = search (digits_long, digits_few)
-
-pub returns-then-is_by_digits : goal.returns-then-is_by_digits
-returns-then-is_by_digits c = search lower_by_digits
+pub returns : goal.returns
+returns c = search lower_by_digits

@@ -2,20 +2,20 @@
 use Rattle.parts.proofs.Opens.{head_empty, head_unknown, head_cut, head_name, head_most, head_rule}
 use Rattle.parts.proofs.heads.head_at.Goals as goal
 
-pub returns-then-part-eq0 : goal.returns-then-part-eq0
-returns-then-part-eq0 c = search head_empty
+pub returns-in_default : goal.returns-in_default
+returns-in_default c = search head_empty
 
 pub returns-then-kind-eq0 : goal.returns-then-kind-eq0
 returns-then-kind-eq0 c = search head_unknown
 
-pub returns-in_default : goal.returns-in_default
-returns-in_default c = search head_cut
+pub returns-in_default-read_operands : goal.returns-in_default-read_operands
+returns-in_default-read_operands c = search head_cut
 
-pub returns-then-kind-eq4 : goal.returns-then-kind-eq4
-returns-then-kind-eq4 c = search head_name
+pub returns-in-4 : goal.returns-in-4
+returns-in-4 c = search head_name
 
-pub returns-then-kind-eq5 : goal.returns-then-kind-eq5
-returns-then-kind-eq5 c = search head_most
+pub returns-in-5 : goal.returns-in-5
+returns-in-5 c = search head_most
 
-pub returns : goal.returns
-returns c = search head_rule
+pub returns-in_default-kind : goal.returns-in_default-kind
+returns-in_default-kind c = search head_rule

@@ -1,10 +1,6 @@
 -- `semantics::ongoing::held_value` meets its contract. Assumes nothing.
-use Rattle.std.proofs.Common.{rules}
-use Rattle.semantics.proofs.Certain.{held_said, held_above}
+use Rattle.semantics.proofs.Certain.{held}
 use Rattle.semantics.proofs.ongoing.held_value.Goals as goal
 
-pub returns-in-Is : goal.returns-in-Is
-returns-in-Is c = search (held_said, rules)
-
-pub returns-in-Above : goal.returns-in-Above
-returns-in-Above c = search (held_above, rules)
+pub returns : goal.returns
+returns c = rw (c.unwrap_or.ensures, c.of_byte.ensures) (held c.args.byte)

@@ -1,5 +1,4 @@
 -- `support::proposing::support_fault` meets its contract. The invariant: the pairs of the shapes below s are supported. Assumes nothing.
-use Prim.Native.Nat.{◌-◌}
 use Rattle.support.proofs.Supported.{SupportedRows}
 use Rattle.support.proofs.proposing.support_fault.Given as goal
 

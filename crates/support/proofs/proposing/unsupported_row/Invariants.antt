@@ -1,5 +1,4 @@
 -- `support::proposing::unsupported_row` meets its contract. The invariant: the pairs at the nodes below a are supported. Assumes nothing.
-use Prim.Native.Nat.{◌-◌}
 use Rattle.support.proofs.Supported.{SupportedTo}
 use Rattle.support.proofs.proposing.unsupported_row.Given as goal
 

@@ -1,16 +1,14 @@
-use mathlib.Core.Path.{◌∙◌}
-use Rattle.semantics.proofs.Refusing.{well_none, well_more, well_first, well_all}
-use Rattle.support.proofs.ValueFaults.{unvalued_at}
+use native.Mathlib.Omega.{arith}
+use Rattle.std.proofs.lemmas.Grind.{common_steps}
+use Rattle.semantics.proofs.Refusing.{well_all}
+use Rattle.support.proofs.ValueFaults.{next_value}
 use Rattle.support.proofs.proposing.value_fault.Goals as goal
 
-pub loop-k-init : goal.loop-k-init
-loop-k-init c = well_none
-
-pub returns-then-refusal-ne0 : goal.returns-then-refusal-ne0
-returns-then-refusal-ne0 c = search (well_first, unvalued_at)
+pub returns-in_err-map_err : goal.returns-in_err-map_err
+returns-in_err-map_err c = let at = next_value _ c.loop-k-test.true c.loop-k.invariant in grind (arith, common_steps)
 
 pub loop-k-preserved : goal.loop-k-preserved
-loop-k-preserved c = search (well_more, unvalued_at)
+loop-k-preserved c = let at = next_value _ c.loop-k-test.true c.loop-k.invariant in grind (arith, common_steps)
 
 pub returns : goal.returns
-returns c = c.no_refusal.ensures ∙ search well_all
+returns c = search well_all

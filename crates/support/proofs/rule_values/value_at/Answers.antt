@@ -1,9 +1,8 @@
 -- `support::rule_values::value_at` meets its contract. Assumes nothing.
-use Rattle.support.proofs.Supported.{said_value_is, said_above}
+use native.Mathlib.Omega.{arith}
+use Rattle.std.proofs.lemmas.Grind.{common_steps}
+use Rattle.support.proofs.Supported.{says_value}
 use Rattle.support.proofs.rule_values.value_at.Goals as goal
 
-pub returns-in_default : goal.returns-in_default
-returns-in_default c = search said_above
-
 pub returns : goal.returns
-returns c = search said_value_is
+returns c = let said = says_value _ c.requires.a_bound in grind (arith, common_steps)

@@ -1,9 +1,0 @@
--- `justifying::justification::digits_over` meets its contract. Assumes nothing.
-use Rattle.justifying.proofs.Justified.{digits_unused, digits_used}
-use Rattle.justifying.proofs.justification.digits_over.Goals as goal
-
-pub returns-then-has_many : goal.returns-then-has_many
-returns-then-has_many c = search digits_used
-
-pub returns : goal.returns
-returns c = digits_unused _
