@@ -36,7 +36,7 @@ use Rattle.reader.specs.Parsing.{ParsedAs, parsed_in}
 use Rattle.adding.specs.Answering.{asked_fault}
 use Rattle.adding.specs.Candidates.{unknown_at}
 use Rattle.adding.specs.Deciding.{sure_over}
-use Rattle.adding.specs.Searching.{Searchable, SelectionsOf, first_below}
+use Rattle.adding.specs.Searching.{Searchable, SelectionsOf, first_sure_below}
 use Rattle.adding.proofs.Keyed.{none_below, some_below}
 use Rattle.adding.proofs.Parsed.{parsed_refusal, parsed_case, targets_count}
 
@@ -171,7 +171,7 @@ module _ (s : List ℕ) (target : ℕ) (list : List ℕ) where
               node_known = omega (arith, node_in, nodes_in counts rows);
             }
 
-        module _ {key : Option ℕ} (k : key ≡ first_below (key_count list) (sure_over (case_in counts rows) pair list)) where
+        module _ {key : Option ℕ} (k : key ≡ first_sure_below (key_count list) (sure_over (case_in counts rows) pair list)) where
           abbrev first : ℕ
           first = first_from (key_count list) 0 (sure_over (case_in counts rows) pair list)
 

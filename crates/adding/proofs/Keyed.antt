@@ -22,7 +22,7 @@ use Rattle.semantics.specs.Adding.{candidate_count, chooses, chosen_count, key_c
 use Rattle.settling.specs.Settled.{solved_at}
 use Rattle.adding.specs.declared.asked.Asked.{Asked}
 use Rattle.adding.specs.Deciding.{case_asked, case_selected, Tabled, Decided, sure_over, KeyAsked}
-use Rattle.adding.specs.Searching.{SelectionsOf, first_below}
+use Rattle.adding.specs.Searching.{SelectionsOf, first_sure_below}
 
 -- ---- How many selections
 
@@ -34,22 +34,22 @@ one_shifted {candidates} h e =
 -- ---- The first number that passes a test
 
 module _ (n : ℕ) (t : ℕ → Bool) (key : ℕ) (none : (k : ℕ) → k < key → t k ≡ false) where
-  first_found : key < n → t key ≡ true → Some key ≡ first_below n t
-  unfolding first_below
+  first_found : key < n → t key ≡ true → Some key ≡ first_sure_below n t
+  unfolding first_sure_below
   first_found h here = rw (first_from_is n 0 t key (omega arith) (omega arith) here (λ j a b. none j b), lt-ltb key n h)
 
-  first_nowhere : n ≤ key → None ≡ first_below n t
-  unfolding first_below
+  first_nowhere : n ≤ key → None ≡ first_sure_below n t
+  unfolding first_sure_below
   first_nowhere h = rw (first_from_none n 0 t (λ j a b. none j (omega arith)), zero-add n, le-ltb n n (omega arith))
 
 -- and what it is by the answer
 module _ (n : ℕ) (t : ℕ → Bool) where
-  pub none_below : None ≡ first_below n t → ltb (first_from n 0 t) n ≡ false
-  unfolding first_below
+  pub none_below : None ≡ first_sure_below n t → ltb (first_from n 0 t) n ≡ false
+  unfolding first_sure_below
   none_below e = by_test (ltb (first_from n 0 t) n) (λ y. let z = rw y at e in cc) (λ m. m)
 
-  pub some_below : (x : ℕ) → Some x ≡ first_below n t → (ltb (first_from n 0 t) n ≡ true) × (first_from n 0 t ≡ x)
-  unfolding first_below
+  pub some_below : (x : ℕ) → Some x ≡ first_sure_below n t → (ltb (first_from n 0 t) n ≡ true) × (first_from n 0 t ≡ x)
+  unfolding first_sure_below
   some_below x e = by_test (ltb (first_from n 0 t) n) (λ y. let z = rw y at e in (y, cc)) (λ m. let z = rw m at e in cc)
 
 -- ---- The first key
@@ -72,11 +72,11 @@ module _ {asked : Asked} where
       }
 
       pub searching_found : {keys : ℕ} → keys ≡ key_count asked.list.now → key < keys → sure ≡ true
-          → Some key ≡ first_below (key_count asked.list.now) (sure_over (case_asked asked) asked.pair asked.list.now)
+          → Some key ≡ first_sure_below (key_count asked.list.now) (sure_over (case_asked asked) asked.pair asked.list.now)
       searching_found e h y = first_found _ _ key v.none (rw e at h) (sym u.is ∙ y)
 
     pub searching_end : {keys : ℕ} → keys ≡ key_count asked.list.now → keys ≤ key
-        → None ≡ first_below (key_count asked.list.now) (sure_over (case_asked asked) asked.pair asked.list.now)
+        → None ≡ first_sure_below (key_count asked.list.now) (sure_over (case_asked asked) asked.pair asked.list.now)
     searching_end e h = first_nowhere _ _ key v.none (rw e at h)
 
 -- ---- One key

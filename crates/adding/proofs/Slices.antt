@@ -35,7 +35,7 @@ use Rattle.semantics.proofs.AgreeingCases.{AgreeingOn, every, solved_values_agre
 use Rattle.semantics.proofs.Pairs.{shape_of_pair}
 use Rattle.settling.specs.Settled.{solved_at}
 use Rattle.adding.specs.Deciding.{sure_over}
-use Rattle.adding.specs.Searching.{Searchable, first_below}
+use Rattle.adding.specs.Searching.{Searchable, first_sure_below}
 use Rattle.adding.specs.Slicing.{SlicedTo}
 use Rattle.adding.proofs.Sliced.{sliced_full}
 
@@ -135,9 +135,9 @@ module _ {counts : Counts} {pair : Target} {rows list : List ℕ} (q : Searchabl
         ap (λ n. get_or (solved_values (with_links slice (chosen list selection))) n 0) (same_pair selection)
         ∙ sym (solved_values_agrees (agree_with selection) _ (rw (in_slice selection)))
 
-    pub sliced_key : {r : Option ℕ} → r ≡ first_below (key_count list) (sure_over slice pair list) → r ≡ first_below (key_count list) (sure_over whole pair list)
+    pub sliced_key : {r : Option ℕ} → r ≡ first_sure_below (key_count list) (sure_over slice pair list) → r ≡ first_sure_below (key_count list) (sure_over whole pair list)
     unfolding sure_over
     sliced_key e =
         e
-        ∙ (λ i. first_below (key_count list)
+        ∙ (λ i. first_sure_below (key_count list)
         (λ key. eqb (chosen_count list (key_selection list key)) (key_size list key) && eqb (same_value (key_selection list key) i) 2))

@@ -15,8 +15,8 @@ use Rattle.semantics.specs.Adding.{candidate_at, candidate_count, candidate_know
 use Rattle.semantics.specs.Paths.{fills}
 
 -- the first number below n that passes the test, if one does
-unfoldable pub first_below : ℕ → (ℕ → Bool) → Option ℕ
-first_below n t = let k = first_from n 0 t in cond (ltb k n) (Some k) None
+unfoldable pub first_sure_below : ℕ → (ℕ → Bool) → Option ℕ
+first_sure_below n t = let k = first_from n 0 t in cond (ltb k n) (Some k) None
 
 -- the selections of up to 12 candidates
 pub record SelectionsOf (candidates n : ℕ) : Type 0 where

@@ -6,7 +6,7 @@ ghost use Rattle.semantics.specs.Adding.{key_count, fewest_answer};
 ghost use Rattle.semantics.specs.Answered.{fewest_by};
 ghost use Rattle.adding.specs.Answering.{asked_fault};
 ghost use Rattle.adding.specs.Deciding.{sure_over};
-ghost use Rattle.adding.specs.Searching.{Searchable, first_below};
+ghost use Rattle.adding.specs.Searching.{Searchable, first_sure_below};
 
 use crate::candidates::{first_unknown, is_fit};
 use crate::searching::{search, selection_count};
@@ -32,7 +32,7 @@ fn asked_fault(counts: Counts, target: usize, list: &[u8]) -> Result<(), Refused
 // The first key of the case in the rows, over the shapes that the target depends on.
 fn sliced_key(counts: Counts, pair: Target, list: &[u8], rows: &mut [u16]) -> Option<usize>
     requires { Searchable counts pair rows.old list.now }
-    ensures { result ≡ first_below (key_count list.now) (sure_over (case_in counts rows.old) pair list.now) }
+    ensures { result ≡ first_sure_below (key_count list.now) (sure_over (case_in counts rows.old) pair list.now) }
 {
     let set = reached(counts, rows, pair.shape);
     slice_shapes(counts.shapes, set, rows);

@@ -4,7 +4,7 @@ ghost use Rattle.cases.specs.Rows.{case_in, CaseIn};
 ghost use Rattle.lookups.specs.Edges.{set_words};
 ghost use Rattle.semantics.specs.Adding.{key_count};
 ghost use Rattle.adding.specs.Deciding.{Tabled, KeyAsked, case_asked, sure_over};
-ghost use Rattle.adding.specs.Searching.{Searchable, SelectionsOf, BaseLaid, first_below};
+ghost use Rattle.adding.specs.Searching.{Searchable, SelectionsOf, BaseLaid, first_sure_below};
 
 use crate::asked::Asked;
 use crate::deciding::verdict;
@@ -40,7 +40,7 @@ fn is_sure(asked: &Asked, key: usize, rows: &mut [u16], tables: &mut [u64]) -> b
 // The first such key.
 fn first_key(asked: &Asked, rows: &mut [u16], tables: &mut [u64]) -> Option<usize>
     requires { Tabled asked.now rows.old tables.old }
-    ensures { result ≡ first_below (key_count asked.now.list.now) (sure_over (case_asked asked.now) asked.now.pair asked.now.list.now) }
+    ensures { result ≡ first_sure_below (key_count asked.now.list.now) (sure_over (case_asked asked.now) asked.now.pair asked.now.list.now) }
 {
     let candidates = asked.list.len() / 5;
     let keys = (candidates + 1) * selection_count(candidates);
@@ -74,7 +74,7 @@ fn search_with<const N: usize>(
     requires searchable { Searchable counts pair slice.now list.now }
     requires room { 769 + set_words counts ≤ N }
     requires words_bound { N ≤ 66313 }
-    ensures { result ≡ first_below (key_count list.now) (sure_over (case_in counts slice.now) pair list.now) }
+    ensures { result ≡ first_sure_below (key_count list.now) (sure_over (case_in counts slice.now) pair list.now) }
 {
     let mut rows = [0u16; 5360];
     let mut tables = [0u64; N];
@@ -93,7 +93,7 @@ fn search_with<const N: usize>(
 // The same, by the small table or the wide one.
 pub fn search(counts: Counts, pair: Target, slice: &[u16], list: &[u8]) -> Option<usize>
     requires { Searchable counts pair slice.now list.now }
-    ensures { result ≡ first_below (key_count list.now) (sure_over (case_in counts slice.now) pair list.now) }
+    ensures { result ≡ first_sure_below (key_count list.now) (sure_over (case_in counts slice.now) pair list.now) }
 {
     if is_small(counts) {
         search_with::<4873>(counts, pair, slice, list)

@@ -1,11 +1,11 @@
 -- The first fault under either code, and the answer that goes with it. Assumes nothing.
-use Prim.Native.Nat.{ℕ, ◌*◌, ◌≤◌}
+use Prim.Native.Nat.{ℕ, ◌*◌}
 use mathlib.Core.Path.{◌≡◌, ap, ◌∙◌}
 use Rattle.std.specs.Prelude.{Result, Err}
 use Rattle.std.specs.Result.{IsErrAnd}
 use Rattle.std.proofs.lemmas.Result.{err_from_is_err_and}
 use mathlib.Core.List.{List}
-use lib.ListN.{length, take}
+use lib.ListN.{take}
 use borrow.Author.Tests.{ne_eqb}
 use Rattle.cases.specs.Case.{Case}
 use Rattle.cases.specs.Rows.{case_in}
@@ -21,7 +21,7 @@ use Rattle.semantics.specs.Solving.{target_values}
 use Rattle.semantics.specs.Values.{pair_count}
 use Rattle.checker.specs.declared.checking.Code.{Code}
 use Rattle.checker.specs.declared.checking.Code.TheVariants.{Older, Newer}
-use Rattle.checker.specs.Codes.{levels_needed, proposal_fault, checked_in}
+use Rattle.checker.specs.Codes.{proposal_fault, checked_in}
 use Rattle.cases.proofs.Faulted.{refused_some}
 
 -- ---- By code
@@ -34,10 +34,6 @@ module _ {code : Code} (c : Case) (values levels : List ℕ) {r : Refusal} where
   pub fault_newer : code ≡ Newer → r ≡ or_else (value_fault c values) (pair_fault c values (levels_in (pair_count c) levels)) → r ≡ proposal_fault code c values levels
   unfolding proposal_fault
   fault_newer e f = f ∙ rw e
-
-pub levels_of_newer : {code : Code} (counts : Counts) (levels : List ℕ) → code ≡ Newer → levels_needed code counts ≤ length levels
-    → 2 * (counts.shapes * counts.nodes) ≤ length levels
-levels_of_newer counts levels e l = rw e at l
 
 -- ---- The answer
 

@@ -23,8 +23,7 @@ use Rattle.semantics.specs.declared.answers.Tally.{Tally}
 use Rattle.semantics.specs.Operations.{or_else, refuse_unless, too_short, counted, solution, solve_fault, solve_refusal, solve_answer, solve_values, solve_levels, solve_verdicts}
 use Rattle.semantics.specs.Solving.{solved_values, values_of, verdicts}
 use Rattle.semantics.proofs.Refusing.{or_else_next, or_else_this, or_else_none, unless_none, written_refused}
-use Rattle.settling.specs.Settled.{Settled}
-use Rattle.settling.specs.declared.tasks.Task.TheVariants.{Levels}
+use Rattle.settling.specs.Settled.{LevelsSettled}
 use Rattle.solver.specs.Rounding.{SetsSolved}
 use Rattle.judge.specs.Equations.{SolvedAs, NumberedAs}
 use Rattle.judge.specs.Solved.{short_solve, SolveRoom, CaseSolved}
@@ -115,16 +114,16 @@ module _ (counts : Counts) (rows : List ℕ) {valid possible : List ℕ} where
   values_solved k = ap₂ (values_of (case_in counts rows)) k.valid_set k.possible_set
 
 module _ {counts : Counts} {rows valid possible : List ℕ} where
-  pub case_solved : {valid₀ levels levels' values values' verdict verdict' : List ℕ} {rounds : ℕ} {t : Tally} {r : Solution}
-      → Settled Levels counts rows valid₀ levels valid possible levels' rounds → AnswersWritten counts rows valid possible values verdict t values' verdict' → r ≡ solved_with rounds t
+  pub case_solved : {levels left levels' values values' verdict verdict' : List ℕ} {rounds : ℕ} {t : Tally} {r : Solution}
+      → LevelsSettled counts rows levels valid possible left rounds → levels' ≡ left → AnswersWritten counts rows valid possible values verdict t values' verdict' → r ≡ solved_with rounds t
       → CaseSolved (case_in counts rows) values levels verdict r values' levels' verdict'
   unfolding solution counted verdicts
-  case_solved k a e =
-      let solved = values_solved counts rows k.sets_left_is in
+  case_solved k same a e =
+      let solved = values_solved counts rows k.sets in
       record {
-        answer = e ∙ rw (k.sets_left_is.counted, a.tallied, solved);
+        answer = e ∙ rw (k.sets.counted, a.tallied, solved);
         values_left = rw solved at a.values_left;
-        levels_left_is = k.levels_left_is;
+        levels_left_is = same ∙ k.levels_left_is;
         verdicts_left = rw solved at a.verdicts_left;
       }
 

@@ -3,20 +3,18 @@ use Rattle.std.proofs.lemmas.Nat.{leading_length}
 use Prim.Native.Nat.{ℕ, max, ◌+◌, ◌-◌, ◌*◌, ◌/◌, ◌%◌, ◌^◌, ◌≤◌, ◌<◌}
 use native.Mathlib.Nat.{div-one, div-eq_of_lt}
 use native.Mathlib.Omega.{arith}
-use mathlib.Core.Path.{◌≡◌, refl, sym, ap, ◌∙◌}
+use mathlib.Core.Path.{◌≡◌, sym, ap, ◌∙◌}
 use mathlib.Core.Logic.{⊎_elim}
-use mathlib.Core.Bool.{Bool, true, false, cond, not, ◌&&◌, ◌||◌, and-true, and-false, and-not_self, and-eq-true_iff, or-false, false≢true}
+use mathlib.Core.Bool.{Bool, true, cond, not, ◌&&◌, ◌||◌, and-true, and-false, false≢true}
 use mathlib.Core.List.{List}
 use lib.ListN.{length, get_or}
 use lib.Bits.{bit_and, bit_or}
 use lib.Dec.{eqb, ltb}
 use lib.Count.{count_leading_zeros}
 use lib.Pow.{shr-shr, shr_mono, pow_mono}
-use mir.Syntax.{w64}
-use mir.Val.{Fits}
 use borrow.Author.Tests.{eqb-true, eqb-false, eq-eqb, ne_eqb, lt-ltb, le-ltb}
 use Rattle.fixpoint.proofs.Lists.{by_test, lt_cases}
-use Rattle.bitset.specs.Words.{bit, member, HasRow, Inserted, Cleared, Without, WithoutBit, Lowest}
+use Rattle.bitset.specs.Words.{bit, member, HasRow, Cleared, Without, Lowest}
 use Rattle.bitset.proofs.Bits.{bit_zero, bit_and_lem, bit_or_lem, bit_high, bit_ones}
 use Rattle.bitset.proofs.Members.{rows_apart, member_word}
 use Rattle.cases.specs.declared.counts.Size.{Size}
@@ -36,35 +34,11 @@ digit_below : (x k : ℕ) → x < 65536 → bit x k ≡ true → k < 16
 digit_below x k h e =
     ⊎_elim (λ l. l) (λ l. absurd (false≢true (sym (bit_high 16 x k h l) ∙ e))) (lt_cases k 16)
 
-put_there : (b m : Bool) → (b || ((b && false) || m)) ≡ ((b && true) || m)
-put_there true m = refl
-put_there false m = refl
-
 module _ {t : List ℕ} {w a x : ℕ} where
-  pub inserted_none : InsertedBut x t w a x t
-  inserted_none = record {
-    some = λ k h e. e;
-    members = λ k b h l. rw (and-not_self (bit x k), and-false (eqb b a));
-    long = refl;
-  }
-
   module _ {rest : ℕ} {t' : List ℕ} (v : InsertedBut rest t w a x t') where
     pub inserted_row : {k : ℕ} → Lowest rest k → x < 65536 → 16 * w ≤ length t → HasRow t' w k
     inserted_row {k} low h l = record {
       fits = omega (arith, rows_apart w k 16 (digit_below x k h (v.some k low.below low.there)), v.long);
-    }
-
-    pub inserted_more : {k rest' : ℕ} {t'' : List ℕ} → Lowest rest k → Inserted t' w k a t'' → WithoutBit rest k rest' → InsertedBut rest' t w a x t''
-    inserted_more {k} low i out = record {
-      some = λ m h e. v.some m h ((and-eq-true_iff (bit rest m) (not (eqb m k))).0 (sym (out.bits m h) ∙ e)).0;
-      members = λ m b h l.
-          i.members m b l
-          ∙ rw (v.members m b h l, out.bits m h)
-          (by_test (eqb m k)
-          (λ e. let q : m ≡ k = eqb-true m k e in
-          rw (e, q, low.there, v.some k low.below low.there) (put_there (eqb b a) (member t w k b)))
-          (λ e. rw (e, and-true (bit rest m))));
-      long = i.long ∙ v.long;
     }
 
     pub inserted_done : rest ≡ 0 → DigitsInserted t w a x t'
@@ -100,15 +74,6 @@ pub record DigitsFilledTo (levels : List ℕ) (size : Size) (s : ℕ) (o t : Lis
   pub long : length t ≡ length o
 
 module _ {levels : List ℕ} {size : Size} {s : ℕ} {o t : List ℕ} where
-  pub digits_filled_none : Cleared o t → DigitsFilledTo levels size s t t 0 0
-  digits_filled_none c = record {
-    nodes = omega arith;
-    members = λ k b h m. c.members size.words k b ∙ rw (le-ltb b 0 (omega arith));
-    greatest = λ b h. absurd (omega arith);
-    small = omega arith;
-    long = refl;
-  }
-
   module _ {most a : ℕ} (v : DigitsFilledTo levels size s o t most a) where
     pub digits_filled_more : {level most' : ℕ} {t' : List ℕ} → a < size.nodes → size.nodes ≤ 64 * size.words → level ≡ level_at levels (s * size.nodes + a) → level < 65536
         → DigitsInserted t size.words a level t' → most' ≡ max most level → DigitsFilledTo levels size s o t' most' (a + 1)
@@ -140,14 +105,8 @@ module _ {levels : List ℕ} {size : Size} {s : ℕ} {o t : List ℕ} where
 pub lower_one : {lower same digit r : ℕ} {one : Bool} → one ≡ true → Without same digit r → LowerNext lower same digit one (bit_or lower r)
 lower_one {lower} {r = r} e u = record { bits = λ j h. bit_or_lem lower r j ∙ rw (e, u.bits j h) }
 
-pub lower_zero : {lower : ℕ} (same digit : ℕ) {one : Bool} → one ≡ false → LowerNext lower same digit one lower
-lower_zero {lower} same digit e = record { bits = λ j h. rw e (sym (or-false (bit lower j))) }
-
 pub same_one : {same digit : ℕ} {one : Bool} → one ≡ true → SameNext same digit one (bit_and same digit)
 same_one {same} {digit} e = record { bits = λ j h. bit_and_lem same digit j ∙ rw e }
-
-pub same_zero : {same digit r : ℕ} {one : Bool} → one ≡ false → Without same digit r → SameNext same digit one r
-same_zero e u = record { bits = λ j h. u.bits j h ∙ rw e }
 
 -- two numbers, compared by their halves and then by their last digits
 module _ (x y : ℕ) {one : Bool} (e : one ≡ eqb (y % 2) 1) where
@@ -235,17 +194,6 @@ module _ {digits : List ℕ} {w used i bound : ℕ} where
               g.bits j l
               ∙ rw (v.sames j x l d, digit j x l d, half x k h, half bound k h) (halves_same (x / 2 ^ (k - 1)) (bound / 2 ^ (k - 1)) e);
         }
-
-    -- where the next digit stands
-    module _ (few : used ≤ 16) (h : 0 < k) (l : i < w) (m : 16 * w ≤ length digits) where
-      pub digit_place : (k - 1) * w + i < length digits
-      digit_place = omega (arith, rows_apart w (k - 1) 16 (omega (arith, v.most)))
-
-      pub digit_row_fits : length digits < 2 ^ 64 → Fits w64 ((k - 1) * w)
-      digit_row_fits o = record { fits = omega (arith, digit_place) }
-
-      pub digit_place_fits : length digits < 2 ^ 64 → Fits w64 ((k - 1) * w + i)
-      digit_place_fits o = record { fits = omega (arith, digit_place) }
 
     pub compared_done : k ≤ 0 → LowerIn digits w used i bound lower
     compared_done h = let e : k ≡ 0 = omega arith in record {

@@ -1,6 +1,6 @@
 -- Whether the level of a supported pair is above its support, by tests on the levels that its rule reads. Assumes nothing.
-use Rattle.std.specs.Prelude.{Option, Some, None}
-use Prim.Native.Nat.{ℕ, zero, suc, min, ◌+◌, ◌-◌, ◌*◌, ◌^◌, ◌≤◌, ◌<◌}
+use Rattle.std.specs.Prelude.{Option}
+use Prim.Native.Nat.{ℕ, zero, suc, min, ◌+◌, ◌-◌, ◌*◌, ◌≤◌, ◌<◌}
 use native.Mathlib.Omega.{arith}
 use mathlib.Core.Path.{◌≡◌, refl, sym, ap, ap₂, ◌∙◌}
 use mathlib.Core.Bool.{Bool, true, false, cond, not, ◌&&◌, ◌||◌, and-eq-true_iff}
@@ -8,8 +8,6 @@ use mathlib.Core.List.{List}
 use lib.Arith.{digits_lt}
 use lib.ListN.{length, get_or}
 use lib.Dec.{eqb, leb, ltb}
-use mir.Syntax.{w64}
-use mir.Val.{Fits}
 use borrow.Author.Tests.{le-ltb, ltb-true, leb-true, leb-false, ne_eqb, eq-eqb, eqb-true}
 use Rattle.fixpoint.specs.Lists.{any, up_to, all, count}
 use Rattle.fixpoint.proofs.Lists.{or_left, get_d_made}
@@ -39,10 +37,10 @@ use Rattle.cases.specs.declared.ruled.Ruled.{Ruled}
 use Rattle.cases.specs.Ruled.{ruled_in}
 use Rattle.support.specs.Rules.{RuleIn}
 use Rattle.support.proofs.Holding.{row_holds, fillers_all, fillers_counted}
-use Rattle.support.proofs.Passing.{WellFrom, well_start, well_next, first_found, first_none_found, RowsWell, rows_well_none, rows_well_more, rows_well_first, rows_well_all}
+use Rattle.support.proofs.Passing.{WellFrom, well_next, first_found, first_none_found, RowsWell, rows_well_more, rows_well_first, rows_well_all}
 use Rattle.support.proofs.RulesThere.{rule_in, node_of_counts, rule_positive, shapes_known, all_path_named, least_path_named}
 use Rattle.support.proofs.Supported.{holds_agree, entry_in, node_in_case, pair_rule, pair_node, pair_value_is}
-use Rattle.justifying.specs.Digits.{DigitsOf, DigitsUnless}
+use Rattle.justifying.specs.Digits.{DigitsUnless}
 use Rattle.justifying.specs.Justifying.{LevelsRead, filled_shape, justified_in, unjustified, SupportBelow, LevelSuffices, PairJustified, PairsSupported, RowJustified, LevelsChecked}
 use Rattle.justifying.specs.LevelRows.{level_at, is_low, LevelRow, RowBelow}
 
@@ -75,53 +73,24 @@ module _ {counts : Counts} {rows sets : List ℕ} {of : Ruled} (i : RuleIn count
         ((and-eq-true_iff (ltb b counts.nodes) (fills (case_in counts rows) p a b)).0 (sym (row_holds i.tables (rw i.size_is at h) p named b l) ∙ y)).0;
   })
 
-module _ {of : Ruled} {sets levels : List ℕ} (v : LevelsRead of sets levels) where
-  own_row : LevelRow levels of.size of.shape.0
-  own_row = level_row v.rule_in v.levels_there v.rule_in.below
-
-  -- the places of the shape's own levels
-  module _ (l : length levels < 2 ^ 64) where
-    pub level_base_fits : Fits w64 (of.shape.0 * of.size.nodes)
-    level_base_fits = record { fits = omega (arith, own_row.fits) }
-
-    pub level_end_fits : Fits w64 (of.shape.0 * of.size.nodes + of.size.nodes)
-    level_end_fits = record { fits = omega (arith, own_row.fits) }
-
-    pub level_place_fits : {a : ℕ} → a < of.size.nodes → Fits w64 (of.shape.0 * of.size.nodes + a)
-    level_place_fits h = record { fits = omega (arith, own_row.fits) }
-
-  pub level_place_there : {a : ℕ} → a < of.size.nodes → 2 * (of.shape.0 * of.size.nodes + a) + 2 ≤ length levels
-  level_place_there h = omega (arith, own_row.fits)
-
-  pub digits_room : 16 * of.size.words ≤ 128
-  digits_room = rw v.rule_in.size_is (omega (arith, v.rule_in.tables.narrow))
-
 -- ---- Digits of the levels that a rule reads at fillers
 
-module _ {levels : List ℕ} {size : Size} {digits : List ℕ} where
-  pub digits_unused : (s : ℕ) → DigitsUnless levels size s digits None
-  digits_unused s = record { right = λ n e. cc }
+module _ {levels : List ℕ} {size : Size} {digits : List ℕ} {used : Option ℕ} {r : ShapeRule} {p : Path} {s : Shape} where
+  pub digits_of_all : r ≡ All p s → DigitsUnless levels size s.0 digits used → DigitsUnless levels size (filled_shape r) digits used
+  unfolding filled_shape references
+  digits_of_all e d = rw e d
 
-  pub digits_used : {s used : ℕ} → DigitsOf levels size s digits used → DigitsUnless levels size s digits (Some used)
-  digits_used {used = used} d = record { right = λ n e. let m : used ≡ n = cc in rw m at d }
+  pub digits_of_least : {n : ℕ} → r ≡ AtLeast n p s → DigitsUnless levels size s.0 digits used → DigitsUnless levels size (filled_shape r) digits used
+  unfolding filled_shape references
+  digits_of_least e d = rw e d
 
-  module _ {used : Option ℕ} where
-    module _ {r : ShapeRule} {p : Path} {s : Shape} where
-      pub digits_of_all : r ≡ All p s → DigitsUnless levels size s.0 digits used → DigitsUnless levels size (filled_shape r) digits used
-      unfolding filled_shape references
-      digits_of_all e d = rw e d
+  pub digits_in_all : r ≡ All p s → DigitsUnless levels size (filled_shape r) digits used → DigitsUnless levels size s.0 digits used
+  unfolding filled_shape references
+  digits_in_all e d = rw e at d
 
-      pub digits_of_least : {n : ℕ} → r ≡ AtLeast n p s → DigitsUnless levels size s.0 digits used → DigitsUnless levels size (filled_shape r) digits used
-      unfolding filled_shape references
-      digits_of_least e d = rw e d
-
-      pub digits_in_all : r ≡ All p s → DigitsUnless levels size (filled_shape r) digits used → DigitsUnless levels size s.0 digits used
-      unfolding filled_shape references
-      digits_in_all e d = rw e at d
-
-      pub digits_in_least : {n : ℕ} → r ≡ AtLeast n p s → DigitsUnless levels size (filled_shape r) digits used → DigitsUnless levels size s.0 digits used
-      unfolding filled_shape references
-      digits_in_least e d = rw e at d
+  pub digits_in_least : {n : ℕ} → r ≡ AtLeast n p s → DigitsUnless levels size (filled_shape r) digits used → DigitsUnless levels size s.0 digits used
+  unfolding filled_shape references
+  digits_in_least e d = rw e at d
 
 -- ---- The tests of a rule
 
@@ -299,9 +268,6 @@ pub record JustifiedTo (of : Ruled) (sets valid possible levels : List ℕ) (pai
       → WellFrom (unjustified counts rows values levels) (of.shape.0 * counts.nodes) k
 
 module _ {of : Ruled} {sets valid possible levels : List ℕ} {pairs : ℕ} where
-  pub justified_none : JustifiedTo of sets valid possible levels pairs (of.shape.0 * of.size.nodes)
-  justified_none = record { from = omega arith; well = λ counts rows i values p. well_start (rw i.size_is (omega arith)) }
-
   module _ {k : ℕ} (v : JustifiedTo of sets valid possible levels pairs k) where
     module _ {end : ℕ} (h : k < end) (least : end ≡ min (of.shape.0 * of.size.nodes + of.size.nodes) pairs) where
       pub justified_node : k - of.shape.0 * of.size.nodes < of.size.nodes
@@ -340,9 +306,6 @@ pub record JustifiedRows (counts : Counts) (rows sets valid possible levels : Li
       → RowsWell (unjustified counts rows values levels) counts.nodes counts.shapes pairs s
 
 module _ {counts : Counts} {rows sets valid possible levels : List ℕ} {pairs : ℕ} where
-  pub justified_rows_none : Tables counts rows sets → JustifiedRows counts rows sets valid possible levels pairs 0
-  justified_rows_none t = record { tables = t; well = λ values p. rows_well_none }
-
   module _ {s : ℕ} (v : JustifiedRows counts rows sets valid possible levels pairs s) where
     module _ (h : s < counts.shapes) {of : Ruled} (e : of ≡ ruled_in counts rows (record { 0 = s })) where
       pub levels_read : 2 * (counts.shapes * counts.nodes) ≤ length levels → LevelsRead of sets levels

@@ -3,28 +3,22 @@ use Prim.Native.Nat.{ℕ, ◌+◌, ◌-◌, ◌*◌, ◌^◌, ◌≤◌, ◌<◌
 use native.Mathlib.Omega.{arith}
 use mathlib.Core.Path.{◌≡◌, refl, sym, ap, ap₂, ◌∙◌}
 use mathlib.Core.Logic.{⊎_elim}
-use mathlib.Core.Bool.{Bool, true, false, not, ◌&&◌, ◌||◌, and-true, and_assoc, and-not_self, and-eq-true_iff, or-false}
+use mathlib.Core.Bool.{Bool, true, false, not, ◌&&◌, ◌||◌, and-true, and_assoc, and-not_self, and-eq-true_iff}
 use mathlib.Core.List.{List}
 use Rattle.std.specs.Prelude.{Option, Some}
-use lib.ListN.{length, get_or}
+use lib.ListN.{get_or}
 use lib.Bits.{bit_and}
 use lib.Count.{ones}
-use lib.Dec.{eqb, ltb}
 use mir.Syntax.{w64}
 use mir.Val.{Fits}
-use borrow.Author.Tests.{eqb-true}
 use Rattle.fixpoint.specs.Lists.{up_to, from, all, count}
 use Rattle.fixpoint.proofs.Lists.{bool_cases, lt_cases, all_up_to_of, all_up_to_in, count_le_length, length_up_to, by_test}
-use Rattle.bitset.specs.Words.{bit, member, WithBitIf, WithoutBit, Lowest, WordBelow}
+use Rattle.bitset.specs.Words.{bit, member, WordBelow}
 use Rattle.bitset.proofs.Bits.{bit_zero, bit_and_lem, word_ext, ones_count}
 use Rattle.bitset.proofs.Members.{member_word, count_word}
 use Rattle.cases.specs.declared.counts.Size.{Size}
 use Rattle.justifying.specs.Digits.{DigitsUnless, LowerIn}
-use Rattle.justifying.specs.LevelRows.{level_at, is_low, LevelRow, RowBelow, WordWhere}
-
--- a level that was read, compared with the bound
-pub lower_said : (levels : List ℕ) (bound : ℕ) (size : Size) (s a : ℕ) {level : ℕ} → level ≡ level_at levels (s * size.nodes + a) → ltb level bound ≡ is_low levels bound size s a
-lower_said levels bound size s a e = rw e
+use Rattle.justifying.specs.LevelRows.{level_at, is_low, RowBelow, WordWhere}
 
 -- ---- The passing numbers of a word: those outside `rest` are sorted out
 
@@ -40,29 +34,6 @@ module _ {test : ℕ → Bool} {word i : ℕ} where
   }
 
   module _ {rest passing : ℕ} (v : SortedBut rest test word i passing) where
-    pub sorted_node : {j n : ℕ} → WordBelow n i word → Lowest rest j → 64 * i + j < n
-    sorted_node {j} nodes low = nodes.below j low.below (v.some j low.below low.there)
-
-    -- and so small that its number fits a word
-    module _ {j s : ℕ} {size : Size} {levels : List ℕ} (nodes : WordBelow size.nodes i word) (low : Lowest rest j) (row : LevelRow levels size s) (l : length levels < 2 ^ 64) where
-      pub sorted_base : Fits w64 (64 * i)
-      sorted_base = record { fits = omega (arith, sorted_node nodes low, row.fits) }
-
-      pub sorted_fits : Fits w64 (64 * i + j)
-      sorted_fits = record { fits = omega (arith, sorted_node nodes low, row.fits) }
-
-    pub sorted_more : {j passing' rest' : ℕ} {there : Bool} → Lowest rest j → there ≡ test (64 * i + j) → WithBitIf passing j there passing' → WithoutBit rest j rest'
-        → SortedBut rest' test word i passing'
-    sorted_more {j} low t u out = record {
-      some = λ m h e. v.some m h ((and-eq-true_iff (bit rest m) (not (eqb m j))).0 (sym (out.bits m h) ∙ e)).0;
-      bits = λ m h.
-          u.bits m h
-          ∙ rw (t, v.bits m h, out.bits m h)
-          (by_test (eqb m j)
-          (λ e. let q : m ≡ j = eqb-true m j e in rw (e, q, low.there, v.some j low.below low.there) (or-false (test (64 * i + j))))
-          (λ e. rw (e, and-true (bit rest m))));
-    }
-
     pub sorted_done : rest ≡ 0 → WordWhere test word i passing
     sorted_done e = record {
       bits = λ j h. v.bits j h ∙ ap (λ z. z && test (64 * i + j)) (ap (λ z. bit word j && not z) (ap (λ z. bit z j) e ∙ bit_zero j) ∙ and-true (bit word j));
@@ -71,12 +42,6 @@ module _ {test : ℕ → Bool} {word i : ℕ} where
 -- ---- By digits, where they are worked out
 
 module _ {levels : List ℕ} {size : Size} {s : ℕ} {digits : List ℕ} {o : Option ℕ} (d : DigitsUnless levels size s digits o) {used : ℕ} (y : o ≡ Some used) where
-  pub digits_long : 16 * size.words ≤ length digits
-  digits_long = (d.right used y).there
-
-  pub digits_few : used ≤ 16
-  digits_few = (d.right used y).few
-
   pub lower_by_digits : {word i bound lower : ℕ} → WordBelow size.nodes i word → LowerIn digits size.words used i bound lower → WordWhere (is_low levels bound size s) word i (bit_and word lower)
   lower_by_digits {word} {i} {bound} {lower} nodes u = record {
     bits = λ j h.
@@ -115,9 +80,6 @@ kept_if true b e = e
 kept_if false b e = refl
 
 module _ {test : ℕ → Bool} {sets : List ℕ} {row w : ℕ} where
-  pub row_passed_none : PassedTo test sets row w 0
-  row_passed_none = record { most = omega arith; each = λ b h. absurd (omega arith) }
-
   module _ {i passing : ℕ} (v : PassedTo test sets row w i) (h : i < w) (u : WordWhere test (get_or sets (row * w + i) 0) i passing) where
     pub row_passed_more : passing ≡ get_or sets (row * w + i) 0 → PassedTo test sets row w (i + 1)
     row_passed_more e = record {
@@ -177,12 +139,5 @@ module _ {test : ℕ → Bool} {sets : List ℕ} {row : ℕ} {set : List ℕ} {s
   -- and so fit a word
   module _ {i n passing : ℕ} (narrow : 64 * w < 2 ^ 64) (h : i < w) (u : WordWhere test (bit_and (get_or sets (row * w + i) 0) (get_or set (s * w + i) 0)) i passing) (small : passing < 2 ^ 64)
       (v : PassingTo test sets row set s w i n) where
-    pub passing_ones : Fits w64 (ones passing)
-    passing_ones = record { fits = omega (arith, passing_few (passing_more h u small v)) }
-
     pub passing_fits : Fits w64 (n + ones passing)
     passing_fits = record { fits = omega (arith, passing_few (passing_more h u small v)) }
-
-  pub passing_done : {i n : ℕ} → w ≤ i → PassingTo test sets row set s w i n → n ≡ count (up_to (64 * w)) (λ b. member sets w row b && (member set w s b && test b))
-  passing_done {i} h v =
-      let e : i ≡ w = omega (arith, v.most) in rw e at v.right

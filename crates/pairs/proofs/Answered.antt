@@ -20,24 +20,15 @@ use Rattle.cases.specs.declared.counts.Counts.{Counts}
 use Rattle.cases.proofs.InRows.{nodes_in, shapes_in, targets_in}
 use Rattle.semantics.specs.declared.answers.Tally.{Tally}
 use Rattle.semantics.specs.Answered.{tally_of}
-use Rattle.semantics.specs.Operations.{written, tally}
+use Rattle.semantics.specs.Operations.{written}
 use Rattle.semantics.specs.Solving.{target_values}
 use Rattle.semantics.specs.Values.{pair_count, pair_of}
 use Rattle.semantics.proofs.Pairs.{pair_below}
 use Rattle.semantics.proofs.Solved.{values_length}
 use Rattle.pairs.specs.Sets.{set_in}
-use Rattle.pairs.specs.Values.{values_in, values_by, node_values, node_totals, ValuesWritten, VerdictsWritten, AnswersWritten}
+use Rattle.pairs.specs.Values.{values_in, values_by, ValuesWritten, VerdictsWritten, AnswersWritten}
 use Rattle.pairs.proofs.Sets.{has_set_in}
 use Rattle.pairs.proofs.Valued.{values_are}
-
--- the counts of an answer, one by one
-pub tallied : (values verdicts : List ℕ) {v u s o i : ℕ} → v ≡ tally 2 values → u ≡ tally 1 values → s ≡ tally 2 verdicts → o ≡ tally 1 verdicts → i ≡ tally 0 verdicts
-    → record { valid = v; undetermined = u; sure = s; «open» = o; impossible = i } ≡ tally_of values verdicts
-tallied values verdicts a b c d e = rw (a, b, c, d, e)
-
-pub totals_tallied : (counts : Counts) (a : ℕ) (valid possible : List ℕ) {v u : ℕ} → v ≡ tally 2 (node_values counts a valid possible) → u ≡ tally 1 (node_values counts a valid possible)
-    → record { number = 0; place = 0; valid = v; undetermined = u } ≡ node_totals counts a valid possible
-totals_tallied counts a valid possible e f = rw (e, f)
 
 -- the values in the tables are those of the sets that they hold
 pub values_by_lem : (counts : Counts) (rows valid possible : List ℕ) → values_in counts valid possible ≡ values_by counts rows valid possible

@@ -1,5 +1,5 @@
 // How many of the first bytes of a table, how many targets, and how many pairs of a node have a value.
-ghost use Rattle.std.specs.Prelude.{◌≡◌, cond, ◌*◌, ◌<◌, ◌≤◌, eqb, length, take};
+ghost use Rattle.std.specs.Prelude.{◌≡◌, ◌*◌, ◌<◌, ◌≤◌, length, take};
 ghost use Rattle.cases.specs.Counts.{Fit};
 ghost use Rattle.cases.specs.Rows.{CaseIn, case_in};
 ghost use Rattle.semantics.specs.Operations.{tally};
@@ -11,38 +11,26 @@ use cases::counts::{Counts, size_of};
 use cases::numbers::{Node, Shape};
 use semantics::value::Value;
 
-fn one_if(byte: u8, v: Value) -> usize
-    ensures { result ≡ cond (eqb byte v.0) 1 0 }
-{
-    if byte == v.0 { 1 } else { 0 }
-}
-
-// How many of the first n bytes are v. Those below i are counted.
+// How many of the first n bytes are v.
 pub fn tally_of(bytes: &[u8], n: usize, v: Value) -> usize
     requires { n ≤ length bytes.now }
     ensures { result ≡ tally v.0 (take n bytes.now) }
 {
-    let mut count = 0;
-    for i in 0..n {
-        count += one_if(bytes[i], v);
-    }
-    count
+    bytes[..n].iter().filter(|byte| **byte == v.0).count()
 }
 
-// How many targets have the value v. Those below i are counted.
+// How many targets have the value v.
 pub fn tally_targets(counts: Counts, rows: &[u16], values: &[u8], v: Value) -> usize
     requires case_in { CaseIn counts rows.now }
     requires nodes_in_bounds { counts.shapes * counts.nodes ≤ length values.now }
     ensures { result ≡ tally v.0 (target_values (case_in counts rows.now) values.now) }
 {
-    let mut count = 0;
-    for i in 0..counts.targets {
-        count += one_if(target_value(counts, rows, i, values), v);
-    }
-    count
+    (0..counts.targets)
+        .filter(|i| target_value(counts, rows, *i, values) == v.0)
+        .count()
 }
 
-// How many pairs of node a have the value v, off the two sets of pairs. Those of the shapes below s are counted.
+// How many pairs of node a have the value v, off the two sets of pairs.
 pub fn tally_node(counts: Counts, a: Node, valid: &[u64], possible: &[u64], v: Value) -> usize
     requires fit { Fit counts }
     requires a_lt_nodes { a.0 < counts.nodes }
@@ -51,10 +39,7 @@ pub fn tally_node(counts: Counts, a: Node, valid: &[u64], possible: &[u64], v: V
     ensures { result ≡ tally v.0 (node_values counts a.0 valid.now possible.now) }
 {
     let size = size_of(counts);
-    let mut count = 0;
-    for s in 0..counts.shapes {
-        let value = value_at(size, Shape(s), a, valid, possible);
-        count += one_if(value.0, v);
-    }
-    count
+    (0..counts.shapes)
+        .filter(|s| value_at(size, Shape(*s), a, valid, possible) == v)
+        .count()
 }

@@ -49,8 +49,7 @@ fn write_row(size: Size, s: Shape, valid: &[u64], possible: &[u64], values: &mut
 {
     let base = s.0 * size.nodes;
     for a in 0..size.nodes {
-        let value = value_at(size, s, Node(a), valid, possible);
-        values[base + a] = value.0;
+        values[base + a] = value_at(size, s, Node(a), valid, possible).0;
     }
 }
 
@@ -88,7 +87,6 @@ pub fn write_verdicts(counts: Counts, rows: &[u16], values: &[u8], verdicts: &mu
     ensures { VerdictsWritten counts rows.now values.now verdicts.old verdicts.new }
 {
     for i in 0..counts.targets {
-        let verdict = target_value(counts, rows, i, values);
-        verdicts[i] = verdict;
+        verdicts[i] = target_value(counts, rows, i, values);
     }
 }

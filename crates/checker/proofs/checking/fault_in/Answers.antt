@@ -1,9 +1,6 @@
 -- `checker::checking::fault_in` meets its contract, code by code. Assumes nothing.
-use Rattle.checker.proofs.Answered.{fault_older, fault_newer, levels_of_newer}
+use Rattle.checker.proofs.Answered.{fault_older, fault_newer}
 use Rattle.checker.proofs.checking.fault_in.Goals as goal
-
-pub check_pairs-requires-clause-nodes_in_bounds_2 : goal.check_pairs-requires-clause-nodes_in_bounds_2
-check_pairs-requires-clause-nodes_in_bounds_2 c = search levels_of_newer
 
 pub returns-in-Older : goal.returns-in-Older
 returns-in-Older c = search fault_older

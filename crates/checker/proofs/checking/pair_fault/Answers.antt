@@ -1,11 +1,12 @@
 -- `checker::checking::pair_fault` meets its contract: the pass for 15 ends where the pass for 14 did. Assumes nothing.
+use Rattle.std.proofs.Common.{rules}
 use Rattle.cases.proofs.Faulted.{refused_some}
 use Rattle.support.proofs.Passing.{refused_on}
 use Rattle.checker.proofs.Checked.{supported_few, pairs_checked, pairs_refused}
 use Rattle.checker.proofs.checking.pair_fault.Goals as goal
 
 pub level_fault-requires-clause-pairs_bound : goal.level_fault-requires-clause-pairs_bound
-level_fault-requires-clause-pairs_bound c = search supported_few
+level_fault-requires-clause-pairs_bound c = search (supported_few, rules)
 
 pub returns-in_err-level_fault : goal.returns-in_err-level_fault
 returns-in_err-level_fault c =

@@ -1,5 +1,4 @@
 -- `justifying::digits::fill_digits` meets its contract. The invariant: the levels of the nodes below a are there. Assumes nothing.
-use Prim.Native.Nat.{◌-◌}
 use Rattle.justifying.proofs.InDigits.{DigitsFilledTo}
 use Rattle.justifying.proofs.digits.fill_digits.Given as goal
 

@@ -1,4 +1,4 @@
-use Rattle.justifying.proofs.InDigits.{inserted_none, inserted_row, inserted_more, inserted_done}
+use Rattle.justifying.proofs.InDigits.{inserted_row, inserted_done}
 use Rattle.justifying.proofs.digits.insert_digits.Goals as goal
 
 pub insert-requires-clause-has_row : goal.insert-requires-clause-has_row

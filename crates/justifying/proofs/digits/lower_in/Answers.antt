@@ -1,6 +1,5 @@
-use Rattle.std.proofs.Common.{rules}
 use native.Mathlib.Omega.{arith}
-use Rattle.justifying.proofs.InDigits.{compared_none, compared_above, compared_more, compared_done, digit_place, digit_row_fits, digit_place_fits}
+use Rattle.justifying.proofs.InDigits.{compared_none, compared_above, compared_more, compared_done}
 use Rattle.justifying.proofs.digits.lower_in.Goals as goal
 
 pub returns-then-bound-used-ne0 : goal.returns-then-bound-used-ne0

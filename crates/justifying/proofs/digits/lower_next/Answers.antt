@@ -1,5 +1,5 @@
 -- `justifying::digits::lower_next` meets its contract. Assumes nothing.
-use Rattle.justifying.proofs.InDigits.{lower_one, lower_zero}
+use Rattle.justifying.proofs.InDigits.{lower_one}
 use Rattle.justifying.proofs.digits.lower_next.Goals as goal
 
 pub returns-then-one : goal.returns-then-one

@@ -1,5 +1,5 @@
 -- `justifying::digits::same_next` meets its contract. Assumes nothing.
-use Rattle.justifying.proofs.InDigits.{same_one, same_zero}
+use Rattle.justifying.proofs.InDigits.{same_one}
 use Rattle.justifying.proofs.digits.same_next.Goals as goal
 
 pub returns-then-one : goal.returns-then-one

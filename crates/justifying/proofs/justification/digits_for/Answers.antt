@@ -1,6 +1,6 @@
 -- `justifying::justification::digits_for` meets its contract: only an all and an at least read levels at fillers. Assumes nothing.
 use Rattle.support.proofs.RulesThere.{all_known, least_known, all_path_named, least_path_named, block_named}
-use Rattle.justifying.proofs.Justified.{level_row, digits_unused, digits_of_all, digits_of_least}
+use Rattle.justifying.proofs.Justified.{level_row, digits_of_all, digits_of_least}
 use Rattle.justifying.proofs.justification.digits_for.Goals as goal
 
 pub digits_over-requires-clause-block : goal.digits_over-requires-clause-block

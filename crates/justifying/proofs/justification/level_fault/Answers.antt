@@ -1,7 +1,6 @@
 use Rattle.cases.proofs.Faulted.{refused_some}
 use Rattle.support.proofs.Passing.{refused_on}
-use Rattle.support.proofs.RulesThere.{shape_row_there}
-use Rattle.justifying.proofs.Justified.{justified_rows_none, levels_read, justified_rows_more, justified_rows_first, justified_rows_all}
+use Rattle.justifying.proofs.Justified.{justified_rows_more, justified_rows_first, justified_rows_all}
 use Rattle.justifying.proofs.justification.level_fault.Goals as goal
 
 pub returns-in_err-unjustified_shape : goal.returns-in_err-unjustified_shape

@@ -1,5 +1,4 @@
 -- `justifying::justification::level_fault` meets its contract. The invariant: the pairs of the shapes below s are justified, if they are supported. Assumes nothing.
-use Prim.Native.Nat.{◌-◌}
 use Rattle.justifying.proofs.Justified.{JustifiedRows}
 use Rattle.justifying.proofs.justification.level_fault.Given as goal
 

@@ -1,8 +1,7 @@
 use Rattle.std.proofs.Common.{rules}
-use native.Mathlib.Omega.{arith}
 use Rattle.cases.proofs.Faulted.{refused_some}
 use Rattle.support.proofs.Passing.{refused_on}
-use Rattle.justifying.proofs.Justified.{level_base_fits, level_end_fits, justified_none, justified_node, justified_more, justified_first, justified_all}
+use Rattle.justifying.proofs.Justified.{justified_node, justified_more, justified_first, justified_all}
 use Rattle.justifying.proofs.justification.unjustified_row.Goals as goal
 
 pub is_justified-justified-requires-clause-a_lt_nodes : goal.is_justified-justified-requires-clause-a_lt_nodes

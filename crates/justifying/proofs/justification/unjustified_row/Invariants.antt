@@ -1,6 +1,5 @@
 -- `justifying::justification::unjustified_row` meets its contract. The invariant: the pairs of the shape below k are justified, if they are
 -- supported. Assumes nothing.
-use Prim.Native.Nat.{◌-◌}
 use Rattle.justifying.proofs.Justified.{JustifiedTo}
 use Rattle.justifying.proofs.justification.unjustified_row.Given as goal
 

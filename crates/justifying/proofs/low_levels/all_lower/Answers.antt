@@ -1,4 +1,4 @@
-use Rattle.justifying.proofs.Lowered.{asked_row, row_passed_none, row_passed_more, row_passed_not, row_passed_done}
+use Rattle.justifying.proofs.Lowered.{asked_row, row_passed_more, row_passed_not, row_passed_done}
 use Rattle.justifying.proofs.low_levels.all_lower.Goals as goal
 
 pub lower_word-requires : goal.lower_word-requires

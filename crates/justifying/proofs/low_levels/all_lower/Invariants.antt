@@ -1,5 +1,4 @@
 -- `justifying::low_levels::all_lower` meets its contract. The invariant: the levels at the nodes of the first i words are low. Assumes nothing.
-use Prim.Native.Nat.{◌-◌}
 use Rattle.justifying.specs.LevelRows.{is_low}
 use Rattle.justifying.proofs.Lowered.{PassedTo}
 use Rattle.justifying.proofs.low_levels.all_lower.Given as goal

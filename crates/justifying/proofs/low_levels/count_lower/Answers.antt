@@ -1,4 +1,4 @@
-use Rattle.justifying.proofs.Lowered.{asked_common, passing_none, passing_more, passing_ones, passing_fits, passing_done}
+use Rattle.justifying.proofs.Lowered.{asked_common, passing_none, passing_more, passing_fits}
 use Rattle.justifying.proofs.low_levels.count_lower.Goals as goal
 
 pub loop-i-init : goal.loop-i-init

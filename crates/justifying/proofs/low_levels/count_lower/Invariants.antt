@@ -1,5 +1,4 @@
 -- `justifying::low_levels::count_lower` meets its contract. The invariant: n counts the nodes of the first i words. Assumes nothing.
-use Prim.Native.Nat.{◌-◌}
 use Rattle.justifying.specs.LevelRows.{is_low}
 use Rattle.justifying.proofs.Lowered.{PassingTo}
 use Rattle.justifying.proofs.low_levels.count_lower.Given as goal

@@ -1,4 +1,4 @@
-use Rattle.justifying.proofs.Lowered.{sorted_base, sorted_fits, sorted_none, sorted_node, sorted_more, sorted_done}
+use Rattle.justifying.proofs.Lowered.{sorted_none, sorted_done}
 use Rattle.justifying.proofs.low_levels.lower_by_node.Goals as goal
 
 pub loop-j-init : goal.loop-j-init

@@ -1,5 +1,5 @@
 -- `justifying::low_levels::lower_word` meets its contract. Assumes nothing.
-use Rattle.justifying.proofs.Lowered.{digits_long, digits_few, lower_by_digits}
+use Rattle.justifying.proofs.Lowered.{lower_by_digits}
 use Rattle.justifying.proofs.low_levels.lower_word.Goals as goal
 
 pub returns : goal.returns

@@ -1,19 +1,15 @@
+-- `pairs::tallies::tally_node` meets its contract. Assumes nothing.
 use native.Mathlib.Omega.{arith}
-use Rattle.pairs.proofs.Valued.{row_wide, set_row_there, node_there}
-use Rattle.pairs.proofs.Tallying.{tallied_none, tallied_more, tallied_fits, node_value, node_tallied}
+use Rattle.std.proofs.Common.{rules}
+use borrow.Author.Tests.{tests}
+use Rattle.std.proofs.lemmas.Iterator.{YieldsList-from_range}
+use Rattle.std.proofs.lemmas.Iterator.Consumers.{YieldsList-from_filter, count_from_yields_List}
+use Rattle.pairs.proofs.Tallying.{node_tallied}
 use Rattle.pairs.proofs.tallies.tally_node.Goals as goal
 
-pub loop-s-init : goal.loop-s-init
-loop-s-init c = tallied_none
-
-pub value_at-value-requires : goal.value_at-value-requires
-value_at-value-requires c = search (row_wide, set_row_there, node_there)
-
-pub overflow_add-count : goal.overflow_add-count
-overflow_add-count c = search (tallied_fits, node_value, arith)
-
-pub loop-s-preserved : goal.loop-s-preserved
-loop-s-preserved c = search (tallied_more, node_value)
-
 pub returns : goal.returns
-returns c = search node_tallied
+returns c =
+    node_tallied c.args.counts c.args.a.0 c.args.valid.now c.args.possible.now c.args.v.0
+    (count_from_yields_List _ _ c.count.ensures.ran
+    (YieldsList-from_filter _ _ (YieldsList-from_range 0 c.args.counts.shapes c.args.counts.shapes c.filter.ensures.source (omega arith)) c.filter.ensures.closure
+    (λ x b q k. search (rules, tests))))
