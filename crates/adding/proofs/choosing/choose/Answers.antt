@@ -1,6 +1,6 @@
 use Rattle.std.proofs.Common.{rules}
 use mathlib.Core.Path.{refl}
-use Rattle.adding.proofs.Chosen.{chosen_none, chosen_done}
+use Rattle.adding.proofs.Chosen.{chosen_none}
 use Rattle.adding.proofs.choosing.choose.Goals as goal
 
 pub loop-i-init : goal.loop-i-init

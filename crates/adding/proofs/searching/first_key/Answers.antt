@@ -1,4 +1,4 @@
-use Rattle.adding.proofs.Keyed.{few_candidates, keys_room, keys_asked, searching_first, searching_more, searching_found, searching_end}
+use Rattle.adding.proofs.Keyed.{keys_asked, searching_more, searching_found, searching_end}
 use Rattle.adding.proofs.searching.first_key.Goals as goal
 
 pub returns-then-is_sure : goal.returns-then-is_sure
