@@ -69,12 +69,6 @@ module _ (list : List ℕ) (selection : ℕ) where
       room = omega (arith, v.room, length_put_row rows n row);
     })
 
-  pub chosen_room : {i n : ℕ} {rows : List ℕ} → ChosenTo list selection i n rows → i < 12 → 4 * n + 4 ≤ length rows
-  chosen_room v h = omega (arith, v.few, v.room)
-
-  pub chosen_done : {m i n : ℕ} {rows : List ℕ} → m ≡ length list / 5 → m ≤ i → ChosenTo list selection i n rows → ChosenTo list selection (candidate_count list) n rows
-  chosen_done {m} {i} e h v = let s : i ≡ candidate_count list = omega (arith, v.most) in rw s at v
-
 -- ---- An edge command that may be chosen
 
 module _ (l : List Edge) (row : Row) {edge : Edge} (read : edge ≡ edge_of row) where
@@ -115,9 +109,6 @@ pub record LayingEdges (m : ℕ) (slice : List ℕ) (n : ℕ) (picked before : L
   pub long : length rows ≡ length before
 
 module _ {m : ℕ} {slice : List ℕ} {n : ℕ} {picked before : List ℕ} where
-  pub edges_none : m ≤ 1024 → Behind slice before → LayingEdges m slice n picked before 0 before
-  edges_none few v = record { few = few; laid = record { edges = λ i h. absurd (omega arith); behind = v }; most = omega arith; long = refl }
-
   module _ {i : ℕ} {rows : List ℕ} (h : i < m) (v : LayingEdges m slice n picked before i rows) where
     pub edges_room : 4 * i + 4 ≤ length rows
     edges_room = omega (arith, v.few, v.laid.behind.full.fits)
@@ -139,9 +130,6 @@ module _ {m : ℕ} {slice : List ℕ} {n : ℕ} {picked before : List ℕ} where
       most = omega arith;
       long = length_put_row rows i row ∙ v.long;
     })
-
-  pub edges_done : {i : ℕ} {rows : List ℕ} → m ≤ i → LayingEdges m slice n picked before i rows → EdgesLaid m slice n picked rows
-  edges_done {i} a v = let e : i ≡ m = omega (arith, v.most) in rw e at v.laid
 
 -- ---- The chosen ones behind them: a part of the rows is n rows of another table
 
@@ -198,9 +186,6 @@ module _ (list : List ℕ) (selection : ℕ) {picked : List ℕ} {n : ℕ} (shor
   module _ (counts : Counts) (limit : counts.edges ≤ 1024) {slice rows : List ℕ} (v : EdgesLaid counts.edges slice n picked rows) where
     pub chosen_within : 4 * counts.edges + 4 * n ≤ length rows
     chosen_within = omega (arith, chosen_few, v.behind.full.fits)
-
-    pub chosen_long : 4 * counts.edges + 4 * n - 4 * counts.edges ≡ length (take (4 * n) picked)
-    chosen_long = omega (arith, length-take-le (4 * n) picked chosen_fit)
 
     pub rows_hold : Fit counts → {part : List ℕ} → part ≡ take (4 * n) picked
         → RowsWith counts slice list selection

@@ -31,6 +31,10 @@ one_shifted {candidates} h e =
     let is = e ∙ shifted candidates (omega arith) in
     record { is = is; some = omega (arith, is, pow_pos candidates); most = omega (arith, is, pow_mono h) }
 
+-- and how many keys there are
+pub keys_asked : (list : List ℕ) {m n : ℕ} → m ≡ length list / 5 → SelectionsOf m n → (m + 1) * n ≡ key_count list
+keys_asked list e v = rw (v.is, e)
+
 -- ---- The first number that passes a test
 
 module _ (n : ℕ) (t : ℕ → Bool) (key : ℕ) (none : (k : ℕ) → k < key → t k ≡ false) where
@@ -60,9 +64,6 @@ pub record SearchingTo (asked : Asked) (key : ℕ) (rows tables : List ℕ) : Ty
   pub tabled : Tabled asked rows tables
 
 module _ {asked : Asked} where
-  pub searching_first : {rows tables : List ℕ} → Tabled asked rows tables → SearchingTo asked 0 rows tables
-  searching_first t = record { none = λ k h. absurd (omega arith); tabled = t }
-
   module _ {key : ℕ} {rows tables : List ℕ} (v : SearchingTo asked key rows tables) where
     module _ {sure : Bool} {rows' tables' : List ℕ} (u : KeyAsked asked key sure rows' tables') where
       pub searching_more : sure ≡ false → SearchingTo asked (key + 1) rows' tables'
@@ -105,21 +106,3 @@ module _ (asked : Asked) (key : ℕ) {n : ℕ} (v : SelectionsOf (candidate_coun
         (ap (λ x. eqb x 2) (u.is ∙ ap (λ x. solved_at (case_selected asked (key % x)) asked.pair) v.is));
     tabled = u.tabled;
   }
-
--- ---- What a question says of the numbers
-
-module _ (asked : Asked) where
-  pub few_candidates : {m : ℕ} → m ≡ length asked.list.now / 5 → m ≤ 12
-  few_candidates e = omega (arith, asked.question.searchable.short)
-
-  pub keys_room : {m n : ℕ} → m ≡ length asked.list.now / 5 → SelectionsOf m n → Fits w64 ((m + 1) * n)
-  keys_room {m} {n} e v =
-      let thirteen : m + 1 ≤ 13 = omega (arith, asked.question.searchable.short) in
-      let few : (m + 1) * n ≤ 13 * 4096 = mul-le-mul thirteen v.most in
-      record { fits = omega (arith, few) }
-
-  pub keys_asked : {m n : ℕ} → m ≡ length asked.list.now / 5 → SelectionsOf m n → (m + 1) * n ≡ key_count asked.list.now
-  keys_asked e v = rw (v.is, e)
-
-pub some_selections : {m n : ℕ} → SelectionsOf m n → 0 < n
-some_selections v = v.some

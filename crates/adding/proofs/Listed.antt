@@ -20,10 +20,6 @@ use Rattle.semantics.specs.Operations.{first_of, refuse_unless}
 use Rattle.semantics.proofs.Refusing.{Well, well_more, well_first}
 use Rattle.adding.specs.Candidates.{unknown_at, of_property}
 
--- a candidate of the list has its bytes
-pub candidate_there : (list : List ℕ) {n i : ℕ} → n ≡ length list / 5 → i < n → 5 * i + 5 ≤ length list
-candidate_there list e h = omega arith
-
 -- a test of the n numbers from i on
 any_from : (t : ℕ → Bool) (i n : ℕ) → list_any t (range_with_len i n) ≡ any (from i n) t
 unfolding any from

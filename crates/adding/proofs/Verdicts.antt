@@ -148,7 +148,3 @@ module _ (asked : Asked) {selection : ℕ} {r : Counts} {rows' : List ℕ} (v : 
           node_there = rw v.nodes q.searchable.node_known;
           tabled = tabled_with;
         }
-
-pub decided : {asked : Asked} {selection : ℕ} {r : Counts} {rows tables : List ℕ} {value : ℕ}
-    → PreparedWith asked selection r rows tables → value ≡ solved_at (case_in r rows) asked.pair → Decided asked selection value rows tables
-decided {asked} v e = record { is = e ∙ ap (λ c. solved_at c asked.pair) v.case; tabled = v.tabled }

@@ -3,9 +3,6 @@ use Rattle.semantics.proofs.Refusing.{well_none, well_all}
 use Rattle.adding.proofs.Listed.{known_more, known_first}
 use Rattle.adding.proofs.candidates.first_unknown.Goals as goal
 
-pub loop-i-init : goal.loop-i-init
-loop-i-init c = well_none
-
 pub returns-in_err-refused_unless : goal.returns-in_err-refused_unless
 returns-in_err-refused_unless c =
     let e = c.in_err-refused_unless.ensures in rw (passed_on c.from_residual.result c.from_residual.ensures.1) (search known_first)

@@ -1,13 +1,7 @@
 use Rattle.std.proofs.Common.{rules}
 use mathlib.Core.Path.{refl}
-use Rattle.adding.proofs.Chosen.{chosen_none, chosen_done}
+use Rattle.adding.proofs.Chosen.{chosen_none}
 use Rattle.adding.proofs.choosing.choose.Goals as goal
 
 pub loop-i-init : goal.loop-i-init
 loop-i-init c = (search chosen_none, refl)
-
-pub loop-i-preserved : goal.loop-i-preserved
-loop-i-preserved c = (search, search rules)
-
-pub returns : goal.returns
-returns c = search chosen_done

@@ -2,8 +2,5 @@
 use Rattle.adding.proofs.Chosen.{chosen_fit, rows_hold}
 use Rattle.adding.proofs.choosing.rows_with.Goals as goal
 
-pub lay_edges-requires-clause-n_in_bounds : goal.lay_edges-requires-clause-n_in_bounds
-lay_edges-requires-clause-n_in_bounds c = search chosen_fit
-
 pub returns : goal.returns
 returns c = search rows_hold

@@ -11,8 +11,5 @@ lay_sets-requires-clause-counts_in_bounds c = search room_with
 pub lay_sets-requires-clause-converse_held : goal.lay_sets-requires-clause-converse_held
 lay_sets-requires-clause-converse_held c = search held_there
 
-pub lay_counters-requires-clause-in_bounds : goal.lay_counters-requires-clause-in_bounds
-lay_counters-requires-clause-in_bounds c = search laid_long
-
 pub returns : goal.returns
 returns c = search prepares_with

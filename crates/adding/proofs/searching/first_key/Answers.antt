@@ -1,14 +1,5 @@
-use Rattle.adding.proofs.Keyed.{few_candidates, keys_room, keys_asked, searching_first, searching_more, searching_found, searching_end}
+use Rattle.adding.proofs.Keyed.{keys_asked, searching_more, searching_found, searching_end}
 use Rattle.adding.proofs.searching.first_key.Goals as goal
-
-pub selection_count-requires : goal.selection_count-requires
-selection_count-requires c = search (few_candidates c.args.asked.now)
-
-pub overflow_mul-keys : goal.overflow_mul-keys
-overflow_mul-keys c = search (keys_room c.args.asked.now)
-
-pub loop-key-init : goal.loop-key-init
-loop-key-init c = search searching_first
 
 pub returns-then-is_sure : goal.returns-then-is_sure
 returns-then-is_sure c = search (searching_found, keys_asked)
