@@ -26,6 +26,13 @@ use Rattle.semantics.specs.Answered.{refused_checked}
 use Rattle.pairs.proofs.Answered.{pairs_in}
 use Rattle.adding.proofs.Parsed.{parsed_refusal, parsed_case}
 
+-- what `?` hands on is the first of two refusals, and what follows it the second where the first is none
+pub first_refuses_so : (first second : Refusal) (e : Refused) → refusal_says e ≡ first → refusal_says e ≡ or_else first second
+first_refuses_so first second e q = rw (← q) (sym (or_else_this _ _ (refused_some e)))
+
+pub then_second : (first second : Refusal) {r : Refusal} → no_refusal ≡ first → r ≡ second → r ≡ or_else first second
+then_second first second q f = rw (← q) (f ∙ sym (or_else_next no_refusal _ refl))
+
 module _ {s : List ℕ} {p : Parsed} {rows : List ℕ} (values levels : List ℕ) {short r : Refusal} (h : ParsedAs s p rows)
     (q : short ≡ short_check p.counts (length values) (length levels)) (e : r ≡ or_else p.refusal short) where
   -- its own part comes after what reading and the lengths refuse

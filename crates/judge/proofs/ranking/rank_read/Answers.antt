@@ -10,15 +10,18 @@ returns-in_err-counts c =
 
 pub returns-in_err-long_enough : goal.returns-in_err-long_enough
 returns-in_err-long_enough c =
-    let p = err_from_is_err_and c.from_residual-2.result c.from_residual-2.ensures.1 in
+    let p = err_from_is_err_and c.from_residual-in_err-long_enough.result c.from_residual-in_err-long_enough.ensures.1 in
     rw (p.1, p.2) (rank_short c.args.strata.now c.in_ok-counts.ensures _ c.in_err-long_enough.ensures)
 
-pub rank_shapes-count-requires : goal.rank_shapes-count-requires
-rank_shapes-count-requires c = search (ranked_shapes_there, strata_there)
+pub rank_shapes-requires-clause-shapes_in : goal.rank_shapes-requires-clause-shapes_in
+rank_shapes-requires-clause-shapes_in c = ranked_shapes_there c.in_ok-counts.ensures.held
+
+pub rank_shapes-requires-clause-shapes_in_bounds : goal.rank_shapes-requires-clause-shapes_in_bounds
+rank_shapes-requires-clause-shapes_in_bounds c = strata_there c.args.strata.now c.in_ok-counts.ensures c.in_ok-long_enough.ensures
 
 pub returns-in_err-count : goal.returns-in_err-count
 returns-in_err-count c =
-    let p = err_from_is_err_and c.from_residual-3.result c.from_residual-3.ensures.1 in
+    let p = err_from_is_err_and c.from_residual-in_err-count.result c.from_residual-in_err-count.ensures.1 in
     rw (p.1, p.2) (rank_read c.args.strata.now c.in_ok-counts.ensures c.in_ok-long_enough.ensures c.in_err-count.ensures)
 
 pub returns : goal.returns

@@ -10,7 +10,7 @@ returns-in_err-counts c =
 
 pub returns-in_err-short_tables : goal.returns-in_err-short_tables
 returns-in_err-short_tables c =
-    let p = err_from_is_err_and c.from_residual-2.result c.from_residual-2.ensures.1 in
+    let p = err_from_is_err_and c.from_residual-in_err-short_tables.result c.from_residual-in_err-short_tables.ensures.1 in
     rw (p.1, p.2) (solve_short c.args.values.now c.args.levels.now c.args.verdicts.now c.in_ok-counts.ensures _ c.in_err-short_tables.ensures)
 
 pub solve_case-requires-clause-solve_room : goal.solve_case-requires-clause-solve_room

@@ -10,7 +10,7 @@ returns-in_err-counts c =
 
 pub returns-in_err-long_enough : goal.returns-in_err-long_enough
 returns-in_err-long_enough c =
-    let p = err_from_is_err_and c.from_residual-2.result c.from_residual-2.ensures.1 in
+    let p = err_from_is_err_and c.from_residual-in_err-long_enough.result c.from_residual-in_err-long_enough.ensures.1 in
     rw (p.1, p.2) (old_short c.args.values.now c.in_ok-counts.ensures _ c.in_err-long_enough.ensures)
 
 pub check_proposal-requires-clause-nodes_in_bounds : goal.check_proposal-requires-clause-nodes_in_bounds

@@ -10,7 +10,7 @@ returns-in_err-counts c =
 
 pub returns-in_err-refused_unless : goal.returns-in_err-refused_unless
 returns-in_err-refused_unless c =
-    let p = err_from_is_err_and c.from_residual-2.result c.from_residual-2.ensures.1 in
+    let p = err_from_is_err_and c.from_residual-in_err-refused_unless.result c.from_residual-in_err-refused_unless.ensures.1 in
     rw (p.1, p.2) (totals_unknown c.args.node c.in_ok-counts.ensures _ c.in_err-refused_unless.ensures)
 
 pub total_case-requires-clause-node_lt_nodes : goal.total_case-requires-clause-node_lt_nodes
