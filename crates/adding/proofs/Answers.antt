@@ -11,7 +11,6 @@ use Rattle.std.specs.Prelude.{Option, Some, None, Result, Ok, Err}
 use Rattle.std.specs.Option.{ok_or}
 use borrow.Author.Tests.{ne_eqb, ltb-true, leb-true}
 use Rattle.cases.specs.Case.{Case}
-use Rattle.cases.specs.Reading.{outcome}
 use Rattle.cases.specs.Refusals.{Refusal, no_refusal, refusal_says, refused_at}
 use Rattle.cases.specs.Rows.{case_in, target_in}
 use Rattle.cases.specs.declared.command.Target.{Target}
@@ -22,7 +21,7 @@ use Rattle.cases.proofs.Faulted.{refused_some}
 use Rattle.cases.proofs.InRows.{nodes_in, shapes_in, edges_in, targets_in}
 use Rattle.cases.proofs.Sound.{outcome_limited}
 use Rattle.fixpoint.specs.Lists.{up_to, all, first_from}
-use Rattle.fixpoint.proofs.Lists.{by_test, all_in, length_made, get_d_made, get_d_map}
+use Rattle.fixpoint.proofs.Lists.{all_in, length_made, get_d_made, get_d_map}
 use Rattle.semantics.specs.Adding.{candidate_at, candidate_count, candidate_known, list_fits, chosen, chosen_count, with_links}
 use Rattle.semantics.specs.Adding.{verdict_with, is_sure_by, fewest_key, key_count, key_size, key_selection}
 use Rattle.semantics.specs.Adding.{fewest_fault, fewest_refusal, fewest, fewest_answer}

@@ -23,11 +23,10 @@ use Rattle.semantics.specs.Adding.{chosen, with_links}
 use Rattle.semantics.specs.Parking.{with_edges}
 use Rattle.semantics.specs.Paths.{fills}
 use Rattle.semantics.proofs.Adding.{sound_with, chosen_known}
-use Rattle.settling.specs.Settled.{solved_at}
 use Rattle.adding.specs.declared.asked.Asked.{Asked}
 use Rattle.adding.specs.Choosing.{RowsWith}
 use Rattle.adding.specs.Searching.{Question}
-use Rattle.adding.specs.Deciding.{case_asked, case_selected, Tabled, PreparedWith, Decided}
+use Rattle.adding.specs.Deciding.{case_asked, case_selected, Tabled, PreparedWith}
 
 -- what is held of a case is held of another with the same fillers of these paths
 held_alike : {c d : Case} {w held : ℕ} {sets : List ℕ} → c.nodes ≡ d.nodes → length c.paths ≡ length d.paths

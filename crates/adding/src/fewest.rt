@@ -39,6 +39,7 @@ fn sliced_key(counts: Counts, pair: Target, list: &[u8], rows: &mut [u16]) -> Op
     search(counts, pair, rows, list)
 }
 
+// What the call comes to.
 fn fewest(case: &[u8], target: usize, candidates: &[u8]) -> Result<Fewest, Refused>
     ensures { answer_in (λ r. fewest_by (refusal_says r) 0) result ≡ fewest_answer case.now target candidates.now }
 {

@@ -1,5 +1,5 @@
 use Rattle.parts.proofs.Exits.{passed_on}
-use Rattle.semantics.proofs.Refusing.{well_none, well_all}
+use Rattle.semantics.proofs.Refusing.{well_all}
 use Rattle.adding.proofs.Listed.{known_more, known_first}
 use Rattle.adding.proofs.candidates.first_unknown.Goals as goal
 

@@ -1,4 +1,3 @@
-use Rattle.std.proofs.Common.{rules}
 use mathlib.Core.Path.{refl}
 use Rattle.adding.proofs.Chosen.{chosen_none}
 use Rattle.adding.proofs.choosing.choose.Goals as goal

@@ -1,4 +1,4 @@
-use Rattle.adding.proofs.Chosen.{edges_more, edges_room}
+use Rattle.adding.proofs.Chosen.{edges_more}
 use Rattle.adding.proofs.choosing.lay_edges.Goals as goal
 
 pub loop-i-preserved : goal.loop-i-preserved

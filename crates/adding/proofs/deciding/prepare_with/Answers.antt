@@ -1,5 +1,5 @@
 -- `adding::deciding::prepare_with` meets its contract: the rows hold the case with the chosen edges, and what is laid is for it. Assumes nothing.
-use Rattle.adding.proofs.Verdicts.{selected_in, room_with, held_there, laid_long, prepares_with}
+use Rattle.adding.proofs.Verdicts.{selected_in, room_with, held_there, prepares_with}
 use Rattle.adding.proofs.deciding.prepare_with.Goals as goal
 
 pub lay_sets-requires-clause-case_in : goal.lay_sets-requires-clause-case_in
