@@ -1,5 +1,4 @@
 -- No fault has the number 0, which stands for none. Assumes nothing.
-use Prim.Native.Nat.{ℕ}
 use mathlib.Core.Path.{◌≡◌}
 use native.Mathlib.Omega.{arith}
 use Rattle.cases.specs.declared.refusals.Fault.{Fault}

@@ -15,7 +15,7 @@ use Rattle.cases.specs.declared.counts.Counts.{Counts}
 use Rattle.std.specs.Prelude.{Err}
 use Rattle.reader.specs.Parsing.{Parsed, ParsedAs, parsed_in}
 use Rattle.semantics.specs.declared.answers.Checked.{Checked}
-use Rattle.semantics.specs.Operations.{or_else, refuse_unless, too_short, case_of, check_fault, check_refusal, checked, check_answer}
+use Rattle.semantics.specs.Operations.{or_else, too_short, case_of, check_fault, check_refusal, checked, check_answer}
 use Rattle.semantics.specs.Values.{pair_count}
 use Rattle.semantics.proofs.Refusing.{or_else_next, or_else_this, or_else_none, or_else_assoc, unless_none}
 use Rattle.checker.specs.Codes.{proposal_fault}

@@ -12,11 +12,10 @@ use Rattle.cases.specs.Refusals.{Refusal, no_refusal, refusal_in, refusal_says}
 use Rattle.cases.proofs.Faulted.{refused_some}
 use Rattle.cases.specs.declared.counts.Counts.{Counts}
 use Rattle.cases.proofs.InRows.{shapes_in, shape_rule_in}
-use Rattle.std.specs.Prelude.{Result, Ok, Err}
+use Rattle.std.specs.Prelude.{Result, Err}
 use Rattle.reader.specs.Parsing.{Parsed, ParsedAs, parsed_in}
 use Rattle.references.specs.Referring.{ShapesIn}
 use Rattle.references.proofs.Shapes.{shapes_of}
-use Rattle.semantics.specs.declared.answers.Ranked.{Ranked}
 use Rattle.semantics.specs.Operations.{or_else, refuse_unless, too_short, counted, denial_fault, rank_fault, rank_refusal, ranked, rank_answer, rank_strata}
 use Rattle.semantics.proofs.Refusing.{or_else_next, or_else_this, or_else_none, or_else_assoc, unless_none, written_refused}
 use Rattle.strata.specs.Ranks.{RankedAs, strata_in}

@@ -17,7 +17,11 @@ fn support_read(case: &[u8], values: &[u8]) -> Result<Checked, Refused>
 {
     let mut rows = [0u16; 5360];
     let counts = parse(case, &mut rows)?;
-    long_enough(Fault::ShortValues, counts.shapes * counts.nodes, values.len())?;
+    long_enough(
+        Fault::ShortValues,
+        counts.shapes * counts.nodes,
+        values.len(),
+    )?;
     check_proposal(Code::Older, counts, &rows, values, &values[..0])
 }
 

@@ -1,6 +1,6 @@
 // Which levels of a shape are below a bound: at a node, at the nodes of a word, at every node of a row of node sets and at how many of them. At
 // the nodes of a word they are compared by their digits (`digits`) or read one by one.
-ghost use Rattle.std.specs.Prelude.{◌≡◌, true, ◌&&◌, ◌||◌, not, ◌*◌, ◌^◌, ◌<◌, ◌≤◌};
+ghost use Rattle.std.specs.Prelude.{◌≡◌, ◌&&◌, ◌||◌, not, ◌*◌, ◌^◌, ◌<◌, ◌≤◌};
 ghost use Rattle.bitset.specs.Words.{member, HasRow, WordBelow};
 ghost use Rattle.fixpoint.specs.Lists.{up_to, all, count};
 ghost use Rattle.justifying.specs.Digits.{DigitsUnless};

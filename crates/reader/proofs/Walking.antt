@@ -11,7 +11,7 @@ use lib.Seq.{take_all}
 use borrow.Author.Tests.{lt-ltb, le-ltb, eqb-true, eqb-false}
 use Rattle.fixpoint.specs.Lists.{from, up_to, all}
 use Rattle.fixpoint.proofs.Lists.{tests, by_test, all_mono}
-use Rattle.cases.specs.Reading.{Heading, HeadingIs, HeadingRefused}
+use Rattle.cases.specs.Reading.{HeadingIs, HeadingRefused}
 use Rattle.cases.specs.Refusals.{fault_number, Refusal, no_refusal}
 use Rattle.cases.specs.declared.answers.Taken.{Taken}
 use Rattle.cases.specs.declared.command.Command.{Command}

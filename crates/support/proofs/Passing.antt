@@ -9,7 +9,6 @@ use mathlib.Core.Path.{◌≡◌, ap, ◌∙◌}
 use mathlib.Core.Logic.{⊎_elim}
 use Rattle.fixpoint.specs.Lists.{up_to}
 use Rattle.fixpoint.proofs.Lists.{lt_cases}
-use Rattle.cases.proofs.Faulted.{refused_some}
 use Rattle.cases.specs.Refusals.{Refusal, no_refusal, refusal_says, refusal_in}
 use Rattle.cases.specs.declared.refusals.Refused.{Refused}
 use Rattle.semantics.specs.Operations.{first_of}

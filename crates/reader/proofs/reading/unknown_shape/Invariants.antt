@@ -1,7 +1,7 @@
 -- `reader::reading::unknown_shape` meets its contract. The loop's invariant: all operands and those from `i` on have the same first unknown one. Assumes nothing.
 use lib.ListN.{drop}
 use mathlib.Core.Path.{◌≡◌}
-use Prim.Native.Nat.{◌≤◌, ◌-◌}
+use Prim.Native.Nat.{◌≤◌}
 use Rattle.parts.specs.Tables.{named_in}
 use Rattle.cases.specs.Reading.{unknown_shape}
 use Rattle.reader.proofs.reading.unknown_shape.Given as goal
