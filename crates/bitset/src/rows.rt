@@ -76,14 +76,6 @@ pub fn copy_words(t: &mut [u64], at: usize, u: &[u64], from: usize, n: usize)
     t[at..at + n].copy_from_slice(&u[from..from + n]);
 }
 
-// Makes t the same table as u.
-pub fn copy(t: &mut [u64], u: &[u64])
-    requires { length t.old ≡ length u.now }
-    ensures { t.new ≡ u.now }
-{
-    t.copy_from_slice(u);
-}
-
 // Makes row s of t row r of u.
 pub fn copy_row(t: &mut [u64], s: usize, u: &[u64], r: usize, w: usize)
     requires has_row { HasRow t.old w s }
