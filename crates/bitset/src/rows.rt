@@ -85,7 +85,7 @@ pub fn copy_row(t: &mut [u64], s: usize, u: &[u64], r: usize, w: usize)
     copy_words(t, s * w, u, r * w, w);
 }
 
-// Adds row r of u to row s of t.
+// Adds row r of u to row s of t. Apart from `join_words`, since one slice can't be lent twice, to be read and written.
 pub fn join_row(t: &mut [u64], s: usize, u: &[u64], r: usize, w: usize)
     requires has_row { HasRow t.old w s }
     requires has_row_2 { HasRow u.now w r }

@@ -9,6 +9,7 @@ use crate::refusals::Refused;
 // What the input begins with: the profile and how many bytes say it.
 #[derive(Clone, Copy)]
 pub struct Preamble {
+    // a number: `node_limit` and `shape_limit` promise their answers for every number
     pub profile: usize,
     pub width: usize,
 }
@@ -16,6 +17,7 @@ pub struct Preamble {
 // What a command takes of the input: its group, in the order in which the groups stand, and its bytes.
 #[derive(Clone, Copy)]
 pub struct Taken {
+    // a number: `command_of` and `in_order` promise their answers for every number
     pub group: usize,
     pub width: usize,
 }

@@ -12,6 +12,7 @@ pub const PARKED: usize = 0x03;
 // An edge command, with its byte.
 #[derive(Clone, Copy)]
 pub struct Edge {
+    // a number: an edge is promised of every row, whatever its byte
     pub code: usize,
     pub property: Property,
     pub subject: Node,
@@ -92,6 +93,7 @@ impl From<Row> for ShapeRule {
         ensures { result ≡ shape_rule_of row }
     {
         let code = row.0;
+        // `as` widens; by `usize::from` each arm's answer would have a call more to rewrite
         match code {
             0x20 => ShapeRule::Top,
             0x21 => ShapeRule::Node(Node(row.1 as usize)),

@@ -18,6 +18,7 @@ pub const PATH_LIMIT: usize = 16;
 
 pub const TARGET_LIMIT: usize = 256;
 
+// A profile stays a number here and below: each function promises its answer for every number.
 pub fn is_profile(profile: usize) -> bool
     ensures { result ≡ is_profile profile }
 {

@@ -7,6 +7,7 @@ use crate::answers::Taken;
 use crate::command::Row;
 
 // A command byte's group, 7 for an unknown byte, and the widths of its operands in bytes.
+// The group is a number, since the order of groups is one of numbers (`in_order`).
 #[derive(Clone, Copy)]
 pub struct Format(pub usize, pub u8, pub u8, pub u8);
 

@@ -22,6 +22,7 @@ fn print_solution(case: &[u8]) {
     let mut verdicts = [0u8; 256];
     let read = read(case);
     let solved = solve(case, &mut values, &mut levels, &mut verdicts);
+    // the answers are structs for C, which hold the number
     if solved.number != 0 {
         print_refusal(solved.number, solved.place);
     } else {

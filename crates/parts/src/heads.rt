@@ -10,6 +10,7 @@ use cases::refusals::Fault;
 use fitness::shapes::{shape_least_positive, shape_nodes_known, shape_paths_earlier};
 
 // The head of a rule without a fault, by how many inner parts it opens.
+// The kind is the number that `part_format_of` promises.
 fn opening_of(kind: usize, row: Row, width: usize) -> PartHead
     ensures { head_opens result.opens result.row result.width ≡ opening kind row width }
 {

@@ -66,6 +66,7 @@ fn walk(case: &[u8], begun: Preamble, rows: &mut [u16]) -> Result<Counts, Refuse
     let mut named = [0usize; 1660];
     let mut at = begun.width;
     let mut reached = nothing_reached(begun.profile);
+    // no `for`: how far a command reaches is known when it is found
     while at < case.len() {
         let finding = match find(&case[at..], at, reached, rows, &mut fresh, &mut named) {
             Ok(finding) => finding,

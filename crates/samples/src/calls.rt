@@ -60,6 +60,7 @@ fn answer_solve(title: &[u8], case: &[u8], given: &[u8]) -> Option<()> {
         r.open,
         r.impossible,
     ]);
+    // the answers are structs for C, which hold the number
     if r.number == 0 {
         print(b"\n");
         print(title);

@@ -93,6 +93,7 @@ pub struct CheckedOld {
     pub place: usize,
     pub undetermined: usize,
     pub valid: usize,
+    // a number, for C
     pub code: usize,
 }
 

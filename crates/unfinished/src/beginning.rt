@@ -28,6 +28,7 @@ fn start(case: &[u8], answer: Reading) -> Unfinished
     requires { answer ≡ reading case.now }
     ensures { result ≡ first_state (held_input case.now) }
 {
+    // reading's answer is a struct for C, which holds the number
     if answer.number != 0 {
         return open_input(b"\x01\x00\x00\xff", 0);
     }
