@@ -10,8 +10,9 @@ use lib.Dec.{eqb, ltb, leb}
 use Rattle.std.specs.Prelude.{Option, Some, None, Result, Ok, Err}
 use Rattle.std.specs.Option.{ok_or}
 use borrow.Author.Tests.{ne_eqb, ltb-true, leb-true}
+use Rattle.cases.specs.Faults.{Refusal, no_refusal}
 use Rattle.cases.specs.Case.{Case}
-use Rattle.cases.specs.Refusals.{Refusal, no_refusal, refusal_says, refused_at}
+use Rattle.cases.specs.Refusals.{refusal_says, refused_at}
 use Rattle.cases.specs.Rows.{case_in, target_in}
 use Rattle.cases.specs.declared.command.Target.{Target}
 use Rattle.cases.specs.declared.counts.Counts.{Counts}

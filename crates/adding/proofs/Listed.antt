@@ -7,10 +7,11 @@ use mathlib.Core.List.{List}
 use lib.Dec.{eqb, ltb}
 use Rattle.std.specs.List.{list_any, range_with_len}
 use Rattle.cases.proofs.Faulted.{refused_some}
-use Rattle.cases.specs.Refusals.{no_refusal, refusal_says}
+use Rattle.cases.specs.Refusals.{refusal_says}
 use Rattle.cases.specs.declared.refusals.Refused.{Refused}
 use Rattle.cases.specs.declared.command.Edge.{Edge}
 use Rattle.cases.specs.declared.command.Row.{Row}
+use Rattle.cases.specs.Faults.{no_refusal}
 use Rattle.cases.specs.Format.{edge_of}
 use Rattle.fixpoint.specs.Lists.{from, up_to, any}
 use Rattle.semantics.specs.Adding.{candidate_at, candidate_count}

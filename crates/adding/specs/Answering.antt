@@ -1,11 +1,11 @@
 -- What is refused before the search. Assumes nothing.
 use Rattle.std.specs.Prelude.{ℕ, List, length, ltb}
-use Rattle.cases.specs.Refusals.{Refusal}
 use Rattle.cases.specs.declared.counts.Counts.{Counts}
 use Rattle.fixpoint.specs.Lists.{up_to}
 use Rattle.semantics.specs.Adding.{candidate_count, list_fits}
 use Rattle.semantics.specs.Operations.{or_else, first_of, refuse_unless}
 use Rattle.adding.specs.Candidates.{unknown_at}
+use Rattle.cases.specs.Faults.{Refusal}
 
 -- 23 and 24, by the counts of the case
 unfoldable pub asked_fault : Counts → ℕ → List ℕ → Refusal

@@ -1,9 +1,9 @@
 -- What is asked of candidates: whether their nodes are in a case, and of which properties they are. Assumes nothing.
 use Rattle.std.specs.Prelude.{ℕ, ◌+◌, Bool, ◌&&◌, List, eqb, ltb}
-use Rattle.cases.specs.Refusals.{Refusal}
 use Rattle.fixpoint.specs.Lists.{up_to, any}
 use Rattle.semantics.specs.Adding.{candidate_at, candidate_count}
 use Rattle.semantics.specs.Operations.{refuse_unless}
+use Rattle.cases.specs.Faults.{Refusal}
 
 -- 24 for candidate i unless its nodes are among the first so many
 unfoldable pub unknown_at : List ℕ → ℕ → ℕ → Refusal

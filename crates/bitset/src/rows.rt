@@ -73,7 +73,9 @@ pub fn copy_words(t: &mut [u64], at: usize, u: &[u64], from: usize, n: usize)
     requires n_in_bounds_2 { from + n ≤ length u.now }
     ensures { WordsCopied u.now from at n t.old t.new }
 {
-    t[at..at + n].copy_from_slice(&u[from..from + n]);
+    for i in 0..n {
+        t[at + i] = u[from + i];
+    }
 }
 
 // Makes row s of t row r of u.

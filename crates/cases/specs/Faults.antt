@@ -1,4 +1,4 @@
--- What is at fault with a command, by what has been read before it: the tests behind refusals 2, 4 to 7 and 20.
+-- What a refusal is; what is at fault with a command, by what has been read before it: the tests behind refusals 2, 4 to 7 and 20.
 -- Document 01, "A case, command by command" (limits, order) and "Refusals", Reading; document 02, points 4 and 8. Assumes nothing.
 use Rattle.std.specs.Prelude.{ℕ, Bool, true, false, cond, not, ◌&&◌, ◌||◌, List, eqb, leb, ltb}
 use Rattle.fixpoint.specs.Lists.{all, any}
@@ -12,6 +12,14 @@ use Rattle.cases.specs.declared.command.ShapeRule.TheVariants.{Top, Node, And, O
 use Rattle.cases.specs.declared.counts.Counts.{Counts}
 use Rattle.cases.specs.Case.{edge_is, paths_of_path, paths_of_shape}
 use Rattle.cases.specs.Counts.{node_limit, edge_limit, path_limit, shape_limit, target_limit}
+
+-- a refusal is a document's number and the place; the number 0 stands for none
+pub record Refusal : Type 0 where
+  pub number : ℕ
+  pub place : ℕ
+
+abbrev pub no_refusal : Refusal
+no_refusal = record { number = 0; place = 0 }
 
 -- one 01 first, then edges, paths, shapes, targets, one FF last: last is the group of the command before, 0 at the start. A 00, of group 0, is
 -- in order nowhere: the one that may stand before 01 is read before these

@@ -8,7 +8,7 @@ use Rattle.cases.specs.declared.command.Edge.{Edge}
 use Rattle.cases.specs.declared.command.Row.{Row}
 use Rattle.cases.specs.declared.answers.Preamble.{Preamble}
 use Rattle.cases.specs.declared.answers.Reading.{Reading}
-use Rattle.cases.specs.Refusals.{fault_number, Refusal, no_refusal}
+use Rattle.cases.specs.Refusals.{fault_number}
 use Rattle.cases.specs.declared.answers.Accepted.{Accepted}
 use Rattle.cases.specs.declared.answers.Taken.{Taken}
 use Rattle.cases.specs.declared.counts.Counts.{Counts}
@@ -16,7 +16,7 @@ use Rattle.cases.specs.declared.refusals.Fault.{Fault as Faulted}
 use Rattle.cases.specs.declared.refusals.Refused.{Refused as RefusedAt}
 use Rattle.cases.specs.Case.{Case, empty_case, counts_of, references}
 use Rattle.cases.specs.Counts.{is_profile, shape_limit}
-use Rattle.cases.specs.Faults.{in_order, within_limit, nodes_known, paths_earlier, least_positive, edge_there}
+use Rattle.cases.specs.Faults.{in_order, within_limit, nodes_known, paths_earlier, least_positive, edge_there, Refusal, no_refusal}
 use Rattle.cases.specs.Format.{group_of, taken_of, row_of, complete, operands_of, missing, command_at}
 use Rattle.cases.specs.Parts.{Part, Plain, PartRead, PartFault, PartIs, part_at, depth_limit, names, expansion}
 

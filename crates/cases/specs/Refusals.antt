@@ -7,6 +7,7 @@ use Rattle.cases.specs.declared.refusals.Fault.TheVariants.{BehindEnd, UnknownSh
 use Rattle.cases.specs.declared.refusals.Fault.TheVariants.{Unjustified, ShortStrata, OwnDenial, TooDeep, TooManyShapes, NeverLaid, UnknownPair}
 use Rattle.cases.specs.declared.refusals.Fault.TheVariants.{UnknownProfile, UnfitList, NotInCase, NoneSuffices}
 use Rattle.cases.specs.declared.refusals.Refused.{Refused}
+use Rattle.cases.specs.Faults.{Refusal, no_refusal}
 
 -- the documents' number of each fault
 abbrev pub fault_number : Fault → ℕ
@@ -38,14 +39,6 @@ fault_number NoneSuffices = 25
 
 abbrev pub refused_at : Fault → ℕ → Refused
 refused_at fault place = record { fault = fault; place = place }
-
--- a refusal is a document's number and the place; the number 0 stands for none
-pub record Refusal : Type 0 where
-  pub number : ℕ
-  pub place : ℕ
-
-abbrev pub no_refusal : Refusal
-no_refusal = record { number = 0; place = 0 }
 
 -- what a refusal says
 abbrev pub refusal_says : Refused → Refusal

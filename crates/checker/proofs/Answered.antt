@@ -7,9 +7,10 @@ use Rattle.std.proofs.lemmas.Result.{err_from_is_err_and}
 use mathlib.Core.List.{List}
 use lib.ListN.{take}
 use borrow.Author.Tests.{ne_eqb}
+use Rattle.cases.specs.Faults.{Refusal, no_refusal}
 use Rattle.cases.specs.Case.{Case}
 use Rattle.cases.specs.Rows.{case_in}
-use Rattle.cases.specs.Refusals.{Refusal, no_refusal, refusal_says}
+use Rattle.cases.specs.Refusals.{refusal_says}
 use Rattle.cases.specs.declared.refusals.Refused.{Refused}
 use Rattle.cases.specs.declared.counts.Counts.{Counts}
 use Rattle.cases.proofs.InRows.{nodes_in, shapes_in}

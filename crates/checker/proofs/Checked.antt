@@ -8,8 +8,8 @@ use mathlib.Core.List.{List}
 use lib.Dec.{eqb}
 use borrow.Author.Tests.{ne_eqb}
 use Rattle.fixpoint.specs.Lists.{up_to}
+use Rattle.cases.specs.Faults.{Refusal, no_refusal}
 use Rattle.cases.specs.Rows.{case_in}
-use Rattle.cases.specs.Refusals.{Refusal, no_refusal}
 use Rattle.cases.specs.declared.counts.Counts.{Counts}
 use Rattle.fillers.specs.CaseTables.{Tables}
 use Rattle.fillers.proofs.InTables.{pair_count_is}

@@ -1,7 +1,8 @@
 -- The first fault of a proposal whose tables are long enough, under either code, and what its check answers. Assumes nothing.
 use Rattle.std.specs.Prelude.{ℕ, ◌*◌, List, Result}
+use Rattle.cases.specs.Faults.{Refusal}
 use Rattle.cases.specs.Case.{Case}
-use Rattle.cases.specs.Refusals.{Refusal, refusal_says, answer_in}
+use Rattle.cases.specs.Refusals.{refusal_says, answer_in}
 use Rattle.cases.specs.declared.counts.Counts.{Counts}
 use Rattle.cases.specs.declared.refusals.Refused.{Refused}
 use Rattle.semantics.specs.Answered.{refused_checked}

@@ -10,7 +10,7 @@ use lib.Seq.{drop-drop}
 use lib.Dec.{eqb, ltb}
 use borrow.Author.Tests.{lt-ltb, le-ltb, ltb-true, ltb-false, ne_eqb, eq-eqb}
 use Rattle.fixpoint.proofs.Lists.{by_test}
-use Rattle.cases.specs.Refusals.{Refusal, no_refusal}
+use Rattle.cases.specs.Faults.{Refusal, no_refusal}
 use Rattle.cases.specs.Case.{Case}
 use Rattle.cases.specs.Parts.{names}
 use Rattle.cases.specs.Reading.{headed, heading_of, counts_so_far, shapes_named, Note, Progress, start, Entry, Shape, Other, pass, named_at}

@@ -30,10 +30,9 @@ use Rattle.cases.specs.declared.answers.Taken.{Taken}
 use Rattle.cases.specs.Case.{Case, empty_case, counts_of, path_rule, paths_of_path, paths_of_shape, references}
 use Rattle.cases.specs.Counts.{is_profile, node_limit, shape_limit}
 use Rattle.cases.specs.Format.{format_of, group_of, width_of, taken_of, number_at, row_of, complete, operands_by, path_rule_of, shape_rule_of, command_of, command_at}
-use Rattle.cases.specs.Faults.{in_order, within_limit, laid, edge_there, shape_nodes_known, path_paths_earlier, shape_paths_earlier, shape_least_positive}
+use Rattle.cases.specs.Faults.{in_order, within_limit, laid, edge_there, shape_nodes_known, path_paths_earlier, shape_paths_earlier, shape_least_positive, no_refusal}
 use Rattle.cases.specs.Parts.{Plain, names}
 use Rattle.cases.specs.Reading.{heading_of, heading_profile, judged, step_at, Note, Progress, start, counts_so_far, add, shapes_named, named_at, Entry, Shape, Other, pass}
-use Rattle.cases.specs.Refusals.{no_refusal}
 use Rattle.cases.specs.Reading.{Found, Good, entry_of, room_for, roomy_found, parkable, found_at, unknown_shape, after_end, Walked, refused, finish}
 use Rattle.cases.specs.Reading.{is_end, is_end_entry, stepped, walk, walked_from, walked, profile_of, Outcome, expanded, outcome}
 use Rattle.cases.specs.Sound.{path_byte, shape_byte, OneByteEach}

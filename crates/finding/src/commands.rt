@@ -183,6 +183,9 @@ pub fn find(
     requires row_room { RowRoom reached.counts.edges rows.now }
     ensures { FoundAs part.now at reached rows.now fresh.old named.old result fresh.new named.new }
 {
-    let finding = find_roomy(part, at, reached, fresh, named)?;
+    let found = find_roomy(part, at, reached, fresh, named);
+    let Ok(finding) = found else {
+        return found;
+    };
     with_edge(finding, reached, rows)
 }

@@ -12,10 +12,13 @@ use cases::rows::row_in;
 fn lays(edge: Edge, other: Edge) -> bool
     ensures { result ≡ edge_is 0x02 other.property.0 other.subject.0 other.object.0 edge }
 {
-    edge.object == other.object
-        && edge.subject == other.subject
-        && edge.property == other.property
-        && edge.code == LAID
+    if edge.object != other.object {
+        return false;
+    }
+    if edge.subject != other.subject {
+        return false;
+    }
+    edge.property == other.property && edge.code == LAID
 }
 
 // Whether it is one of the first so many edges in the rows.

@@ -7,9 +7,10 @@ use mathlib.Core.List.{List}
 use lib.ListN.{length}
 use lib.Dec.{leb}
 use borrow.Author.Tests.{leb-true}
+use Rattle.cases.specs.Faults.{Refusal, no_refusal}
 use Rattle.cases.specs.Rows.{case_in}
 use Rattle.cases.specs.declared.refusals.Refused.{Refused}
-use Rattle.cases.specs.Refusals.{Refusal, no_refusal, refusal_says}
+use Rattle.cases.specs.Refusals.{refusal_says}
 use Rattle.cases.proofs.Faulted.{refused_some}
 use Rattle.cases.specs.declared.counts.Counts.{Counts}
 use Rattle.std.specs.Prelude.{Err}
@@ -46,7 +47,7 @@ module _ {s : List ℕ} {p : Parsed} {rows : List ℕ} (values levels : List ℕ
       (sym (or_else_assoc p.refusal (or_else values_short levels_short) (proposal_fault Newer c values levels)
       ∙ ap (or_else p.refusal) (or_else_assoc values_short levels_short (proposal_fault Newer c values levels))))
 
-  check_refused : {a : Checked} → (r.number ≡ 0 → ⊥) → a ≡ refused_checked r → a ≡ check_answer s values levels
+  pub check_refused : {a : Checked} → (r.number ≡ 0 → ⊥) → a ≡ refused_checked r → a ≡ check_answer s values levels
   unfolding check_answer
   check_refused some f = f ∙ refused_is r (case_of s) values some ∙ ap (λ (o : Refusal). checked o (case_of s) values) (sym (refusal_is ∙ or_else_this r _ some))
 

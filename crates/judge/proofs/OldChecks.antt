@@ -6,10 +6,11 @@ use mathlib.Core.List.{List, []}
 use lib.ListN.{length}
 use lib.Dec.{leb}
 use borrow.Author.Tests.{leb-true}
+use Rattle.cases.specs.Faults.{Refusal, no_refusal}
 use Rattle.cases.specs.Rows.{case_in}
 use Rattle.cases.specs.declared.counts.Counts.{Counts}
 use Rattle.cases.specs.declared.refusals.Refused.{Refused}
-use Rattle.cases.specs.Refusals.{Refusal, no_refusal, refusal_says}
+use Rattle.cases.specs.Refusals.{refusal_says}
 use Rattle.cases.proofs.Faulted.{refused_some}
 use Rattle.std.specs.Prelude.{Err}
 use Rattle.reader.specs.Parsing.{Parsed, ParsedAs, parsed_in}
@@ -35,7 +36,7 @@ module _ {s : List ℕ} {p : Parsed} {rows : List ℕ} (values : List ℕ) {shor
       rw (← parsed_refusal h, ← parsed_case h, e, q, ← pairs_in p.counts rows)
       (sym (or_else_assoc p.refusal (too_short 10 (pair_count c) values) (proposal_fault Older c values levels)))
 
-  old_refused : (r.number ≡ 0 → ⊥) → with_old_code (refused_checked r) ≡ old_answer s values
+  pub old_refused : (r.number ≡ 0 → ⊥) → with_old_code (refused_checked r) ≡ old_answer s values
   unfolding old_answer
   old_refused some =
       ap with_old_code

@@ -6,9 +6,10 @@ use mathlib.Core.List.{List}
 use lib.ListN.{length}
 use lib.Dec.{leb}
 use borrow.Author.Tests.{ne_eqb, leb-true}
+use Rattle.cases.specs.Faults.{Refusal, no_refusal}
 use Rattle.cases.specs.Rows.{case_in, CaseIn}
 use Rattle.cases.specs.declared.refusals.Refused.{Refused}
-use Rattle.cases.specs.Refusals.{Refusal, no_refusal, refusal_in, refusal_says}
+use Rattle.cases.specs.Refusals.{refusal_in, refusal_says}
 use Rattle.cases.proofs.Faulted.{refused_some}
 use Rattle.cases.specs.declared.counts.Counts.{Counts}
 use Rattle.cases.proofs.InRows.{shapes_in, shape_rule_in}
@@ -34,7 +35,7 @@ module _ {s : List ℕ} {p : Parsed} {rows : List ℕ} (table : List ℕ) {short
       rw (← parsed_refusal h, ← parsed_case h, shapes_in p.counts rows, e, q)
       (sym (or_else_assoc p.refusal (refuse_unless (leb p.counts.shapes (length table)) 16 p.counts.shapes) (denial_fault (case_in p.counts rows))))
 
-  rank_refused : (r.number ≡ 0 → ⊥) → CaseRanked s table (ranked_by r 0) table
+  pub rank_refused : (r.number ≡ 0 → ⊥) → CaseRanked s table (ranked_by r 0) table
   unfolding rank_answer rank_strata ranked counted
   rank_refused some =
       let is : rank_refusal s table ≡ r = refusal_is ∙ or_else_this r _ some in

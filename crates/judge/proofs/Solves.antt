@@ -8,10 +8,11 @@ use mathlib.Core.List.{List}
 use lib.ListN.{length}
 use lib.Dec.{leb}
 use borrow.Author.Tests.{ne_eqb, leb-true}
+use Rattle.cases.specs.Faults.{Refusal, no_refusal}
 use Rattle.cases.specs.Counts.{words_of}
 use Rattle.cases.specs.Rows.{case_in}
 use Rattle.cases.specs.declared.refusals.Refused.{Refused}
-use Rattle.cases.specs.Refusals.{Refusal, no_refusal, refusal_says}
+use Rattle.cases.specs.Refusals.{refusal_says}
 use Rattle.cases.proofs.Faulted.{refused_some}
 use Rattle.cases.specs.declared.counts.Counts.{Counts}
 use Rattle.std.specs.Prelude.{Err}
@@ -42,7 +43,7 @@ module _ {s : List ℕ} {p : Parsed} {rows : List ℕ} (values levels verdicts :
   unfolding solve_refusal
   refusal_is = e ∙ ap₂ or_else (parsed_refusal h) (q ∙ short_is p.counts rows values levels verdicts ∙ ap (λ c. solve_fault c values levels verdicts) (parsed_case h))
 
-  solve_refused : (r.number ≡ 0 → ⊥) → SolvedAs s values levels verdicts (refused_solution r) values levels verdicts
+  pub solve_refused : (r.number ≡ 0 → ⊥) → SolvedAs s values levels verdicts (refused_solution r) values levels verdicts
   unfolding solve_answer solve_values solve_levels solve_verdicts solution counted
   solve_refused some =
       record {
@@ -114,16 +115,16 @@ module _ (counts : Counts) (rows : List ℕ) {valid possible : List ℕ} where
   values_solved k = ap₂ (values_of (case_in counts rows)) k.valid_set k.possible_set
 
 module _ {counts : Counts} {rows valid possible : List ℕ} where
-  pub case_solved : {levels left levels' values values' verdict verdict' : List ℕ} {rounds : ℕ} {t : Tally} {r : Solution}
-      → LevelsSettled counts rows levels valid possible left rounds → levels' ≡ left → AnswersWritten counts rows valid possible values verdict t values' verdict' → r ≡ solved_with rounds t
+  pub case_solved : {levels levels' values values' verdict verdict' : List ℕ} {rounds : ℕ} {t : Tally} {r : Solution}
+      → LevelsSettled counts rows levels valid possible levels' rounds → AnswersWritten counts rows valid possible values verdict t values' verdict' → r ≡ solved_with rounds t
       → CaseSolved (case_in counts rows) values levels verdict r values' levels' verdict'
   unfolding solution counted verdicts
-  case_solved k same a e =
+  case_solved k a e =
       let solved = values_solved counts rows k.sets in
       record {
         answer = e ∙ rw (k.sets.counted, a.tallied, solved);
         values_left = rw solved at a.values_left;
-        levels_left_is = same ∙ k.levels_left_is;
+        levels_left_is = k.levels_left_is;
         verdicts_left = rw solved at a.verdicts_left;
       }
 

@@ -7,10 +7,11 @@ use mathlib.Core.List.{List}
 use lib.ListN.{get_or}
 use lib.Dec.{eqb, ltb}
 use borrow.Author.Tests.{ne_eqb, ltb-true}
+use Rattle.cases.specs.Faults.{Refusal, no_refusal}
 use Rattle.cases.specs.Counts.{words_of}
 use Rattle.cases.specs.Rows.{case_in, CaseIn}
 use Rattle.cases.specs.declared.refusals.Refused.{Refused}
-use Rattle.cases.specs.Refusals.{Refusal, no_refusal, refusal_says}
+use Rattle.cases.specs.Refusals.{refusal_says}
 use Rattle.cases.proofs.Faulted.{refused_some}
 use Rattle.cases.specs.declared.counts.Counts.{Counts}
 use Rattle.cases.proofs.InRows.{nodes_in, shapes_in}
@@ -38,7 +39,7 @@ module _ {s : List ℕ} {p : Parsed} {rows : List ℕ} (node : ℕ) {unknown r :
   unfolding totals_refusal totals_fault
   refusal_is = rw (← parsed_refusal h, ← parsed_case h, nodes_in p.counts rows) (e ∙ rw q)
 
-  totals_refused : (r.number ≡ 0 → ⊥) → refused_totals r ≡ totals_answer s node
+  pub totals_refused : (r.number ≡ 0 → ⊥) → refused_totals r ≡ totals_answer s node
   unfolding totals_answer totals counted
   totals_refused some = rw (← refusal_is) (rw (ne_eqb r.number 0 some))
 

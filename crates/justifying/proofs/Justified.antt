@@ -13,10 +13,10 @@ use Rattle.fixpoint.specs.Lists.{any, up_to, all, count}
 use Rattle.fixpoint.proofs.Lists.{or_left, get_d_made}
 use Rattle.bitset.specs.Words.{member}
 use Rattle.bitset.proofs.Members.{rows_apart}
+use Rattle.cases.specs.Faults.{Refusal, no_refusal}
 use Rattle.cases.specs.Case.{Case, references}
 use Rattle.cases.specs.Counts.{size_of}
 use Rattle.cases.specs.Rows.{case_in}
-use Rattle.cases.specs.Refusals.{Refusal, no_refusal}
 use Rattle.cases.specs.declared.command.ShapeRule.{ShapeRule}
 use Rattle.cases.specs.declared.command.ShapeRule.TheVariants.{Top, Node as NodeRule, And, Or, Not, Same, All, AtLeast}
 use Rattle.cases.specs.declared.counts.Counts.{Counts}

@@ -2,9 +2,9 @@
 -- every case in whose tables the rule is that of its shape. Assumes nothing.
 use Rattle.std.specs.Prelude.{ℕ, ◌+◌, ◌*◌, ◌<◌, ◌≤◌, ◌≡◌, Bool, true, Option, List, length, get_or}
 use Rattle.bitset.specs.Words.{member}
+use Rattle.cases.specs.Faults.{Refusal}
 use Rattle.cases.specs.Case.{references}
 use Rattle.cases.specs.Rows.{case_in}
-use Rattle.cases.specs.Refusals.{Refusal}
 use Rattle.cases.specs.declared.command.ShapeRule.{ShapeRule}
 use Rattle.cases.specs.declared.counts.Counts.{Counts}
 use Rattle.fixpoint.specs.Lists.{up_to}

@@ -11,9 +11,9 @@ use borrow.Author.Tests.{ltb-true}
 use Rattle.fixpoint.specs.Lists.{all}
 use Rattle.fixpoint.proofs.Lists.{length_made, map_where, all_where}
 use Rattle.cases.specs.declared.command.Target.{Target}
+use Rattle.cases.specs.Faults.{no_refusal}
 use Rattle.cases.specs.Case.{Case}
 use Rattle.cases.specs.Counts.{words_of}
-use Rattle.cases.specs.Refusals.{no_refusal}
 use Rattle.cases.specs.Rows.{case_in, CaseIn}
 use Rattle.cases.specs.Sound.{Sound}
 use Rattle.cases.specs.declared.counts.Counts.{Counts}

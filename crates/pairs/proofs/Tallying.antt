@@ -3,11 +3,12 @@ use Prim.Native.Nat.{ℕ, zero, suc, ◌+◌, ◌*◌, ◌≤◌, ◌<◌}
 use native.Mathlib.Numerals.{add-one}
 use native.Mathlib.Omega.{arith}
 use mathlib.Core.Path.{◌≡◌, refl, sym, ap, ◌∙◌}
-use mathlib.Core.Bool.{Bool, true}
-use mathlib.Core.List.{List, ◌∷◌, map, map-map, map-id}
+use mathlib.Core.Bool.{Bool, true, cond}
+use mathlib.Core.List.{List, [], ◌∷◌, map, map-map}
 use lib.Arith.{digits_lt}
 use lib.Dec.{eqb, ltb}
-use lib.ListN.{length, get_or}
+use lib.ListN.{length, get_or, take}
+use lib.Seq.{length-take-le, get_or-take, ext_get_or}
 use mir.Syntax.{w64}
 use mir.Val.{Fits}
 use borrow.Author.Tests.{ltb-true}
@@ -17,7 +18,7 @@ use Rattle.std.proofs.lemmas.List.Recursion.{is_count_by}
 use Rattle.fixpoint.specs.Entries.{Put}
 use Rattle.fixpoint.specs.Lists.{up_to, from, all, count}
 use Rattle.fixpoint.proofs.Entries.{put_all}
-use Rattle.fixpoint.proofs.Lists.{by_test, all_map, all_up_to_in}
+use Rattle.fixpoint.proofs.Lists.{by_test, length_made, get_d_made, made_more, count_append, count_le_length, all_map, all_up_to_in}
 use Rattle.cases.specs.Counts.{size_of}
 use Rattle.cases.specs.Rows.{CaseIn, case_in, target_in}
 use Rattle.cases.specs.declared.command.Target.{Target}
@@ -81,15 +82,45 @@ verdicts_written {counts} {rows} {values} {i = i} room h l p =
 abbrev pub node_value_at : Counts → ℕ → List ℕ → List ℕ → ℕ → ℕ
 node_value_at counts a valid possible s = value_in (size_of counts) valid possible (s * counts.nodes + a)
 
+-- m of the first i numbers of f are v
+pub record Tallied (f : ℕ → ℕ) (v i m : ℕ) : Type 0 where
+  pub right : m ≡ tally v (map f (up_to i))
+
+module _ {f : ℕ → ℕ} {v : ℕ} where
+  pub tallied_none : Tallied f v 0 0
+  unfolding up_to from count tally
+  tallied_none = record { right = refl }
+
+  tallied_small : {i m : ℕ} → Tallied f v i m → m ≤ i
+  unfolding tally
+  tallied_small {i} r = omega (arith, r.right, count_le_length (map f (up_to i)) (λ y. eqb y v), length_made f i)
+
+  module _ {i m one : ℕ} (o : one ≡ cond (eqb (f i) v) 1 0) where
+    pub tallied_more : Tallied f v i m → Tallied f v (i + 1) (m + one)
+    unfolding tally count
+    tallied_more r =
+        record { right = rw (made_more f f i (f i) (λ k l. refl) refl, count_append (map f (up_to i)) (f i ∷ []) (λ y. eqb y v), o, r.right) (omega arith) }
+
+    pub tallied_fits : (n : ℕ) → Fits w64 n → i < n → Tallied f v i m → Fits w64 (m + one)
+    tallied_fits n g h r = omega (arith, tallied_small (tallied_more r))
+
+-- the first n bytes of a table are n such numbers
+first_bytes : (bytes : List ℕ) (n : ℕ) → n ≤ length bytes → map (λ k. get_or bytes k 0) (up_to n) ≡ take n bytes
+first_bytes bytes n h =
+    ext_get_or 0 _ (take n bytes) (length_made _ n ∙ sym (length-take-le n bytes h))
+    (λ k l. let b : k < n = omega (arith, length_made (λ k. get_or bytes k 0) n) in get_d_made _ n k 0 b ∙ sym (get_or-take n bytes k 0 b))
+
+pub bytes_tallied : (bytes : List ℕ) {v n i m : ℕ} → n ≤ length bytes → i ≤ n → n ≤ i → Tallied (λ k. get_or bytes k 0) v i m → m ≡ tally v (take n bytes)
+bytes_tallied bytes {v} {n} {i} room h l r =
+    let e : i ≡ n = omega arith in
+    rw e at r.right ∙ ap (tally v) (first_bytes bytes n room)
+
 -- A tally as the library counts: the entries of a list that are v
 counted : (v : ℕ) (f : ℕ → ℕ) (l : List ℕ) → tally v (map f l) ≡ count_by (λ x. eqb (f x) v) l
 unfolding tally count
 counted v f =
     is_count_by (λ l. tally v (map f l)) (λ x. eqb (f x) v) refl
     (λ x l. by_test (eqb (f x) v) (λ e. rw e (omega arith)) (λ e. rw e (omega arith)))
-
-pub tally_counted : (v : ℕ) (l : List ℕ) {m : ℕ} → m ≡ count_by (λ x. eqb x v) l → m ≡ tally v l
-tally_counted v l e = e ∙ sym (counted v (λ x. x) l) ∙ ap (tally v) (map-id l)
 
 -- and the numbers below n that f takes to v
 numbers_from : (i n : ℕ) → range_with_len i n ≡ from i n

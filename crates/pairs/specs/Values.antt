@@ -1,12 +1,12 @@
 -- The value of a pair by two tables of pairs, the pair of a target by the rows, and what writing them leaves. Assumes nothing.
 use Rattle.std.specs.Prelude.{ℕ, ◌+◌, ◌*◌, ◌/◌, ◌%◌, ◌≡◌, cond, List, ◌++◌, map, drop}
 use Rattle.bitset.specs.Words.{member}
+use Rattle.cases.specs.Faults.{no_refusal}
 use Rattle.cases.specs.Counts.{words_of, size_of}
 use Rattle.cases.specs.Rows.{target_in, case_in}
 use Rattle.cases.specs.declared.counts.Counts.{Counts}
 use Rattle.cases.specs.declared.counts.Size.{Size}
 use Rattle.fixpoint.specs.Lists.{up_to}
-use Rattle.cases.specs.Refusals.{no_refusal}
 use Rattle.semantics.specs.declared.answers.Tally.{Tally}
 use Rattle.semantics.specs.declared.answers.Totals.{Totals}
 use Rattle.semantics.specs.Answered.{tally_of}

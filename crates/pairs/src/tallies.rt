@@ -11,12 +11,16 @@ use cases::counts::{Counts, size_of};
 use cases::numbers::{Node, Shape};
 use semantics::value::Value;
 
-// How many of the first n bytes are v.
+// How many of the first n bytes are v. Those below i are counted, without a branch: bytes may stand in any order.
 pub fn tally_of(bytes: &[u8], n: usize, v: Value) -> usize
     requires { n ≤ length bytes.now }
     ensures { result ≡ tally v.0 (take n bytes.now) }
 {
-    bytes[..n].iter().filter(|byte| **byte == v.0).count()
+    let mut count = 0;
+    for i in 0..n {
+        count += usize::from(bytes[i] == v.0);
+    }
+    count
 }
 
 // How many targets have the value v.

@@ -8,8 +8,8 @@ use lib.ListN.{length, get_or, drop, drop_of_length-le}
 use lib.Seq.{drop-cons}
 use borrow.Author.Tests.{lt-ltb, le-ltb}
 use Rattle.fixpoint.proofs.Lists.{length_made, get_d_made}
+use Rattle.cases.specs.Faults.{no_refusal}
 use Rattle.cases.specs.Reading.{Note, unknown_shape}
-use Rattle.cases.specs.Refusals.{no_refusal}
 use Rattle.parts.specs.Tables.{named_in}
 
 -- from the i-th noted shape on

@@ -12,7 +12,7 @@ use borrow.Author.Tests.{lt-ltb, le-ltb, eqb-true, eqb-false}
 use Rattle.fixpoint.specs.Lists.{from, up_to, all}
 use Rattle.fixpoint.proofs.Lists.{tests, by_test, all_mono}
 use Rattle.cases.specs.Reading.{HeadingIs, HeadingRefused}
-use Rattle.cases.specs.Refusals.{fault_number, Refusal, no_refusal}
+use Rattle.cases.specs.Refusals.{fault_number}
 use Rattle.cases.specs.declared.answers.Taken.{Taken}
 use Rattle.cases.specs.declared.command.Command.{Command}
 use Rattle.cases.specs.declared.command.Command.TheVariants.{Nodes, End}
@@ -21,7 +21,7 @@ use Rattle.cases.specs.declared.command.Row.{Row}
 use Rattle.cases.specs.declared.counts.Counts.{Counts}
 use Rattle.cases.specs.declared.refusals.Fault.{Fault as Faulted}
 use Rattle.cases.specs.Case.{Case, empty_case, counts_of}
-use Rattle.cases.specs.Faults.{within_limit}
+use Rattle.cases.specs.Faults.{within_limit, Refusal, no_refusal}
 use Rattle.cases.specs.Parts.{Part, Named, Plain, Around, Joining, names, size, inner_size, rule, rules, fresh_rules, fresh_count, expansion}
 use Rattle.cases.specs.Reading.{heading_of, Note, Progress, start, counts_so_far, add}
 use Rattle.cases.specs.Reading.{shapes_named, named_at, Entry, Shape, Other, pass, Found, Fault, Good, found_at}
@@ -320,7 +320,7 @@ module _ {s : List ℕ} {at : ℕ} {reached : Reached} {rows fresh named : List 
   }
 
   module _ (h : at < length s) {answer : Result Finding Faulted} {fresh' named' : List ℕ} (f : FoundAs (take (length s - at) (drop at s)) at reached rows fresh named answer fresh' named') where
-    answer_is : AnswerIs (found_at g.progress (drop at s)) at reached fresh named answer fresh' named'
+    pub answer_is : AnswerIs (found_at g.progress (drop at s)) at reached fresh named answer fresh' named'
     unfolding found_at
     answer_is = rw (← take_rest s at) (rw edges_are at (f.found.is g.progress stands))
 

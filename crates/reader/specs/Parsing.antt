@@ -2,7 +2,8 @@
 use Rattle.std.specs.Prelude.{ℕ, ◌*◌, ◌≤◌, ◌≡◌, cond, List, length, Result, Ok, Err, ltb}
 use Rattle.cases.specs.declared.counts.Counts.{Counts}
 use Rattle.cases.specs.declared.refusals.Refused.{Refused}
-use Rattle.cases.specs.Refusals.{fault_number, Refusal, no_refusal}
+use Rattle.cases.specs.Refusals.{fault_number}
+use Rattle.cases.specs.Faults.{Refusal, no_refusal}
 use Rattle.cases.specs.Reading.{Note, Outcome, outcome, unknown_shape}
 use Rattle.cases.specs.Rows.{case_in, CaseIn}
 use Rattle.parts.specs.Expanding.{ExpandRoom, ExpandedAs}

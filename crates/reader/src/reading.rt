@@ -1,10 +1,10 @@
 // One walk over the input, under the profile that it begins with. Its invariant: the tables hold the commands before `at`, none of them at
 // fault, and what the whole input comes to is what the walk comes to from there.
-ghost use Rattle.std.specs.Prelude.{◌≡◌, ◌*◌, ◌≤◌, length};
+ghost use Rattle.std.specs.Prelude.{◌≡◌, ◌*◌, ◌≤◌, length, Err, IfErr};
 ghost use Rattle.cases.specs.Reading.{HeadingIs, heading_of, reading, is_end, unknown_shape};
 ghost use Rattle.cases.specs.Rows.{Full};
 ghost use Rattle.parts.specs.Tables.{named_in};
-ghost use Rattle.cases.specs.Refusals.{refusal_in};
+ghost use Rattle.cases.specs.Refusals.{refused_at, refusal_in};
 ghost use Rattle.reader.specs.Parsing.{ParsedAs, parsed_in, EndRoom, EndedAs};
 
 use crate::storing::store;
@@ -56,6 +56,16 @@ fn is_end(command: Command) -> bool
     matches!(command, Command::End)
 }
 
+// What is refused, at its place; where nothing is, no counts.
+fn refused<T: Copy>(answer: Result<T, Fault>, place: usize) -> Result<Counts, Refused>
+    ensures { IfErr answer (λ fault. result ≡ Err (refused_at fault place)) }
+{
+    match answer {
+        Ok(_) => Ok(Counts::default()),
+        Err(fault) => Err(fault.at(place)),
+    }
+}
+
 // Reads the commands of a case into the rows, from the offset behind the profile on.
 fn walk(case: &[u8], begun: Preamble, rows: &mut [u16]) -> Result<Counts, Refused>
     requires full { Full rows.old }
@@ -68,9 +78,9 @@ fn walk(case: &[u8], begun: Preamble, rows: &mut [u16]) -> Result<Counts, Refuse
     let mut reached = nothing_reached(begun.profile);
     // no `for`: how far a command reaches is known when it is found
     while at < case.len() {
-        let finding = match find(&case[at..], at, reached, rows, &mut fresh, &mut named) {
-            Ok(finding) => finding,
-            Err(fault) => return Err(fault.at(at)),
+        let found = find(&case[at..], at, reached, rows, &mut fresh, &mut named);
+        let Ok(finding) = found else {
+            return refused(found, at);
         };
         let accepted = finding.accepted;
         let command = accepted.command;
@@ -97,10 +107,11 @@ pub fn parse(case: &[u8], rows: &mut [u16]) -> Result<Counts, Refused>
     requires { Full rows.old }
     ensures { ParsedAs case.now (parsed_in result) rows.new }
 {
-    match heading(case) {
-        Ok(begun) => walk(case, begun, rows),
-        Err(fault) => Err(fault.at(0)),
-    }
+    let said = heading(case);
+    let Ok(begun) = said else {
+        return refused(said, 0);
+    };
+    walk(case, begun, rows)
 }
 
 // Reads a case of any bytes and any length.

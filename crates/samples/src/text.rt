@@ -1,12 +1,15 @@
 // Reading a line: its words, numbers in decimal, and tables of bytes in hexadecimal.
-ghost use Rattle.std.specs.Prelude.{◌<◌, ◌≤◌, IfSome};
+ghost use Rattle.std.specs.Prelude.{◌-◌, ◌<◌, ◌≤◌, length, IfSome};
 ghost use Rattle.samples.specs.declared.text.TheConstants.{ROOM};
 
 // The bytes that a table has room for.
 const ROOM: usize = 8192;
 
 // What stands before the first such mark and behind it: all and nothing where there is none.
-pub fn cut(text: &[u8], mark: u8) -> (&[u8], &[u8]) {
+pub fn cut(text: &[u8], mark: u8) -> (&[u8], &[u8])
+    ensures front { length result.0.now ≤ length text.now }
+    ensures back { length result.1.now ≤ length text.now - 1 }
+{
     match text.iter().position(|b| *b == mark) {
         Some(at) => (&text[..at], &text[at + 1..]),
         None => (text, &[]),

@@ -12,9 +12,9 @@ use lib.Dec.{leb, ltb}
 use borrow.Author.Tests.{ne_eqb, leb-true, le-leb, lt-ltb}
 use Rattle.fixpoint.specs.Lists.{from, up_to, all}
 use Rattle.fixpoint.proofs.Lists.{by_test, lt_cases, length_made, get_d_made}
-use Rattle.cases.specs.Refusals.{Refusal, no_refusal}
 use Rattle.semantics.specs.Values.{byte_says, said_number, is_value}
 use Rattle.semantics.specs.Operations.{or_else, first_of, refuse_unless, refuse, too_short, counted, written, level_bytes, levels_in}
+use Rattle.cases.specs.Faults.{Refusal, no_refusal}
 
 -- ---- Refusals in a row: the whole refuses nothing exactly where no part refuses
 

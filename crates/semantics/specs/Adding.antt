@@ -2,10 +2,9 @@
 use Rattle.std.specs.Prelude.{ℕ, ◌+◌, ◌*◌, ◌/◌, ◌%◌, ◌^◌, Bool, cond, ◌&&◌, List, map, ◌++◌, length, get_or, eqb, ltb, leb}
 use Rattle.fixpoint.specs.Lists.{up_to, keep, count, first_from}
 use Rattle.cases.specs.Case.{Case}
-use Rattle.cases.specs.Faults.{laid}
+use Rattle.cases.specs.Faults.{laid, Refusal}
 use Rattle.cases.specs.Format.{edge_of, number_at}
 use Rattle.cases.specs.Reading.{outcome}
-use Rattle.cases.specs.Refusals.{Refusal}
 use Rattle.cases.specs.declared.command.Edge.{Edge}
 use Rattle.semantics.specs.declared.answers.Fewest.{Fewest}
 use Rattle.semantics.specs.Operations.{or_else, first_of, refuse_unless, counted, case_of}

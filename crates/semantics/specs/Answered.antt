@@ -1,7 +1,6 @@
 -- How answers are put together: of a refusal its number and place, and "each count that it carries, rounds and strata included, is 0"; else what
 -- values and verdicts count. Assumes nothing.
 use Rattle.std.specs.Prelude.{ℕ, List}
-use Rattle.cases.specs.Refusals.{Refusal}
 use Rattle.semantics.specs.declared.answers.Solution.{Solution}
 use Rattle.semantics.specs.declared.answers.Checked.{Checked}
 use Rattle.semantics.specs.declared.answers.Ranked.{Ranked}
@@ -10,6 +9,7 @@ use Rattle.semantics.specs.declared.answers.Tally.{Tally}
 use Rattle.semantics.specs.declared.answers.Totals.{Totals}
 use Rattle.semantics.specs.declared.ongoing.Reply.{Reply}
 use Rattle.semantics.specs.Operations.{tally}
+use Rattle.cases.specs.Faults.{Refusal}
 
 abbrev pub refused_solution : Refusal → Solution
 refused_solution r = record { number = r.number; place = r.place; rounds = 0; valid = 0; undetermined = 0; sure = 0; «open» = 0; impossible = 0 }

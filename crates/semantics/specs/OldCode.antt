@@ -1,9 +1,9 @@
 -- The old code: a supported assignment is taken without levels. Document 02, point 6. Assumes nothing.
 use Rattle.std.specs.Prelude.{ℕ, List}
 use Rattle.fixpoint.specs.Lists.{up_to}
+use Rattle.cases.specs.Faults.{Refusal}
 use Rattle.cases.specs.Case.{Case}
 use Rattle.cases.specs.Reading.{outcome}
-use Rattle.cases.specs.Refusals.{Refusal}
 use Rattle.semantics.specs.declared.answers.Checked.{Checked}
 use Rattle.semantics.specs.declared.answers.CheckedOld.{CheckedOld}
 use Rattle.semantics.specs.Operations.{or_else, first_of, refuse_unless, too_short, case_of, value_fault, checked}

@@ -2,9 +2,9 @@
 -- Document 01, "Refusals, operation by operation". Reading is `reading` of the crate cases. Assumes nothing.
 use Rattle.std.specs.Prelude.{ℕ, suc, ◌+◌, ◌*◌, ◌/◌, ◌%◌, Bool, cond, not, List, [], ◌∷◌, ◌++◌, map, length, get_or, drop, take, eqb, leb}
 use Rattle.fixpoint.specs.Lists.{up_to, count, largest}
+use Rattle.cases.specs.Faults.{Refusal, no_refusal}
 use Rattle.cases.specs.Case.{Case}
 use Rattle.cases.specs.Reading.{outcome}
-use Rattle.cases.specs.Refusals.{Refusal, no_refusal}
 use Rattle.semantics.specs.declared.answers.Solution.{Solution}
 use Rattle.semantics.specs.declared.answers.Checked.{Checked}
 use Rattle.semantics.specs.declared.answers.Ranked.{Ranked}

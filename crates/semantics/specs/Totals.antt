@@ -1,9 +1,9 @@
 -- Totals by fitting: a node's valid and undetermined pairs. Document 02, point 5. Assumes nothing.
 use Rattle.std.specs.Prelude.{ℕ, List, length, eqb, ltb}
 use Rattle.fixpoint.specs.Lists.{up_to, count}
+use Rattle.cases.specs.Faults.{Refusal}
 use Rattle.cases.specs.Case.{Case}
 use Rattle.cases.specs.Reading.{outcome}
-use Rattle.cases.specs.Refusals.{Refusal}
 use Rattle.semantics.specs.declared.answers.Totals.{Totals}
 use Rattle.semantics.specs.Operations.{or_else, refuse_unless, counted, case_of}
 use Rattle.semantics.specs.Solving.{solved_values}

@@ -2,7 +2,8 @@
 // refusal, 0 for none, then the counts or the selection, 0 on a refusal; the code of the old check is no count.
 ghost use Rattle.std.specs.Prelude.{◌≡◌};
 ghost use Rattle.semantics.specs.OldCode.{with_old_code};
-ghost use Rattle.cases.specs.Refusals.{no_refusal, refusal_says};
+ghost use Rattle.cases.specs.Faults.{no_refusal};
+ghost use Rattle.cases.specs.Refusals.{refusal_says};
 ghost use Rattle.semantics.specs.Answered.{refused_solution, refused_checked, refused_totals, ranked_by, fewest_by, solved_with};
 
 use cases::refusals::Refused;

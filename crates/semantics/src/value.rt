@@ -1,6 +1,7 @@
 // The value of a pair: 0 violated, 1 undetermined, 2 valid.
-ghost use Rattle.std.specs.Prelude.{◌≡◌, ◌-◌, min, max};
-ghost use Rattle.semantics.specs.Values.{byte_says, said_value_or_fault};
+ghost use Rattle.std.specs.Prelude.{◌≡◌, ◌-◌, min, max, IfOk};
+ghost use Rattle.cases.specs.Refusals.{fault_in};
+ghost use Rattle.semantics.specs.Values.{byte_says, said_number, said_value, said_value_or_fault};
 
 use cases::refusals::Fault;
 
@@ -16,7 +17,9 @@ impl Value {
 
     // What a byte says: a value, unless it is above 2.
     pub fn of_byte(byte: u8) -> Result<Value, Fault>
-        ensures { result ≡ said_value_or_fault (byte_says byte) }
+        ensures said { result ≡ said_value_or_fault (byte_says byte) }
+        ensures number { fault_in result ≡ said_number (byte_says byte) }
+        ensures value { IfOk result (λ v. v.0 ≡ said_value (byte_says byte)) }
     {
         if byte <= 2 {
             Ok(Value(byte))

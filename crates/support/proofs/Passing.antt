@@ -9,11 +9,12 @@ use mathlib.Core.Path.{◌≡◌, ap, ◌∙◌}
 use mathlib.Core.Logic.{⊎_elim}
 use Rattle.fixpoint.specs.Lists.{up_to}
 use Rattle.fixpoint.proofs.Lists.{lt_cases}
-use Rattle.cases.specs.Refusals.{Refusal, no_refusal, refusal_says, refusal_in}
+use Rattle.cases.specs.Refusals.{refusal_says, refusal_in}
 use Rattle.cases.specs.declared.refusals.Refused.{Refused}
 use Rattle.semantics.specs.Operations.{first_of}
 use Rattle.semantics.proofs.Refusing.{well_first, well_all}
 use Rattle.support.specs.Proposals.{FirstIn}
+use Rattle.cases.specs.Faults.{Refusal, no_refusal}
 
 -- and is passed on
 pub refused_on : {A : Type 0} (e : Refused) (r : Result A Refused) → IsErrAnd r (λ x. x ≡ e) → refusal_in r ≡ refusal_says e

@@ -13,9 +13,9 @@ use borrow.Author.Tests.{le-leb, lt-leb, leb-true, lt-ltb, not-true, not-false}
 use Rattle.fixpoint.specs.Lists.{any, up_to, all, count}
 use Rattle.fixpoint.proofs.Lists.{bool_ext}
 use Rattle.bitset.specs.Words.{member}
+use Rattle.cases.specs.Faults.{Refusal, no_refusal}
 use Rattle.cases.specs.Case.{Case, shape_rule, references}
 use Rattle.cases.specs.Rows.{case_in}
-use Rattle.cases.specs.Refusals.{Refusal, no_refusal}
 use Rattle.cases.specs.declared.command.ShapeRule.{ShapeRule}
 use Rattle.cases.specs.declared.command.ShapeRule.TheVariants.{Top, Node as NodeRule, And, Or, Not, Same, All, AtLeast}
 use Rattle.cases.specs.declared.counts.Counts.{Counts}
@@ -24,11 +24,12 @@ use Rattle.cases.specs.declared.numbers.Shape.{Shape}
 use Rattle.cases.specs.declared.numbers.Path.{Path}
 use Rattle.fillers.specs.CaseTables.{Tables}
 use Rattle.fillers.proofs.InTables.{pair_count_is}
+use Rattle.semantics.specs.declared.value.Value.{Value}
 use Rattle.semantics.specs.OldCode.{support_fault}
 use Rattle.semantics.specs.Operations.{refuse_unless}
 use Rattle.semantics.specs.Paths.{live}
 use Rattle.semantics.specs.Stability.{holds}
-use Rattle.semantics.specs.Values.{byte_says, said_value_or_fault, pair_of, shape_of, node_of, entry_at, rule_value, pair_value, supported_at}
+use Rattle.semantics.specs.Values.{Said, Is, Above, byte_says, said_number, said_value, said_value_or_fault, pair_of, shape_of, node_of, entry_at, rule_value, pair_value, supported_at}
 use Rattle.semantics.proofs.Kernel.{holds_grows}
 use Rattle.semantics.proofs.Thresholds.{value_at_least, value_at_most}
 use Rattle.cases.specs.declared.ruled.Ruled.{Ruled}
@@ -54,6 +55,17 @@ holds_agree c r a Y Y' X X' ha f g =
 pub says_value : (b : ℕ) → b ≤ 2 → said_value_or_fault (byte_says b) ≡ Ok (record { 0 = b })
 unfolding byte_says
 says_value b small = rw (le-leb b 2 small)
+
+module _ (b : ℕ) {said : Said} (e : said ≡ byte_says b) (small : b ≤ 2) where
+  says : said ≡ Is (record { 0 = b })
+  unfolding byte_says
+  says = e ∙ rw (le-leb b 2 small)
+
+  pub said_value_is : {v : Value} → said ≡ Is v → v.0 ≡ b
+  said_value_is q = ap said_value (sym q ∙ says)
+
+  pub said_above : said ≡ Above → 0 ≡ b
+  said_above q = let n : ◌≡◌ {A = ℕ} 13 0 = ap said_number (sym q ∙ says) in absurd (omega (arith, n))
 
 -- ---- A rule and its pairs in the case
 

@@ -1,8 +1,8 @@
 -- What is asked of proposed values and found in them: 13, and 14 pair by pair. Assumes nothing.
 use Rattle.std.specs.Prelude.{ℕ, ◌+◌, ◌*◌, ◌<◌, ◌≤◌, ◌≡◌, List, length, get_or}
+use Rattle.cases.specs.Faults.{Refusal}
 use Rattle.cases.specs.Rows.{case_in}
 use Rattle.cases.specs.declared.counts.Counts.{Counts}
-use Rattle.cases.specs.Refusals.{Refusal}
 use Rattle.fixpoint.specs.Lists.{up_to}
 use Rattle.pairs.specs.Sets.{Threshold}
 use Rattle.semantics.specs.Operations.{first_of, refuse, refuse_unless}

@@ -11,10 +11,10 @@ use lib.Dec.{ltb}
 use borrow.Author.Tests.{lt-ltb, le-ltb, ne_eqb}
 use Rattle.fixpoint.specs.Lists.{from, up_to, keep}
 use Rattle.fixpoint.proofs.Lists.{by_test, lt_cases}
+use Rattle.cases.specs.Faults.{Refusal, no_refusal}
 use Rattle.cases.specs.Case.{Case}
 use Rattle.cases.specs.Reading.{outcome, is_reading_number}
 use Rattle.cases.specs.Sound.{Sound}
-use Rattle.cases.specs.Refusals.{Refusal, no_refusal}
 use Rattle.encoding.proofs.RefusalNumbers.{reading_number}
 use Rattle.semantics.specs.Adding.{candidate_at, candidate_count, chooses, chosen, chosen_count, with_links, verdict_with, selection_count, key_selection, key_count, fewest_key}
 use Rattle.semantics.specs.Adding.{list_fits, candidate_known, fewest_fault, fewest_refusal, fewest, fewest_answer}

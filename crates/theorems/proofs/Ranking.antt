@@ -11,10 +11,10 @@ use lib.ListN.{length, get_or}
 use borrow.Author.Tests.{not-false}
 use Rattle.fixpoint.specs.Lists.{up_to}
 use Rattle.fixpoint.proofs.Lists.{length_made, get_d_made}
+use Rattle.cases.specs.Faults.{Refusal}
 use Rattle.cases.specs.Case.{Case}
 use Rattle.cases.specs.Reading.{outcome, is_reading_number}
 use Rattle.encoding.proofs.RefusalNumbers.{reading_number}
-use Rattle.cases.specs.Refusals.{Refusal}
 use Rattle.semantics.specs.Denial.{OwnDenial, Undenied, own_denial, MostNots, stratum, strata}
 use Rattle.semantics.specs.Operations.{first_of, refuse_unless, too_short, case_of, rank_refusal, rank_answer, rank_strata, ranked, rank_fault, denial_fault}
 use Rattle.semantics.proofs.Denial.{own_denial_exactly, stratum_most}

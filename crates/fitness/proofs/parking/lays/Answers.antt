@@ -4,10 +4,18 @@ use Rattle.std.proofs.lemmas.Bool.Decides.{nat_tests}
 use Rattle.cases.specs.Case.{edge_is}
 use Rattle.fitness.proofs.parking.lays.Goals as goal
 
-pub returns-then-eq-3 : goal.returns-then-eq-3
+pub returns-then-ne : goal.returns-then-ne
 unfolding edge_is
-returns-then-eq-3 c = grind (arith, nat_tests)
+returns-then-ne c = grind (arith, nat_tests)
 
-pub returns-else-eq-3 : goal.returns-else-eq-3
+pub returns-then-ne-2 : goal.returns-then-ne-2
 unfolding edge_is
-returns-else-eq-3 c = grind (arith, nat_tests)
+returns-then-ne-2 c = grind (arith, nat_tests)
+
+pub returns-then-eq : goal.returns-then-eq
+unfolding edge_is
+returns-then-eq c = grind (arith, nat_tests)
+
+pub returns-else-eq : goal.returns-else-eq
+unfolding edge_is
+returns-else-eq c = grind (arith, nat_tests)

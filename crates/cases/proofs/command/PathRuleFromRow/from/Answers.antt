@@ -1,4 +1,4 @@
--- `cases::command::path_rule_of` meets its contract: each arm answers as the definition does for that byte, and the last for any other. Assumes nothing.
+-- `PathRule::from` of a row (`cases::command`) meets its contract: each arm answers as the definition does for that byte, and the last for any other. Assumes nothing.
 use Rattle.std.proofs.Common.{rules}
 use borrow.Author.Tests.{ne_eqb}
 use Rattle.cases.specs.Format.{path_rule_of}
